@@ -1,0 +1,6 @@
+pub mod Buffers
+pub mod Parts
+pub mod Asking
+pub mod Writes
+pub mod RoundTrip
+pub mod Values

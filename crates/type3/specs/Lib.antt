@@ -1,0 +1,4 @@
+pub mod Kinds
+pub mod Octets
+pub mod Contents
+pub mod Exactly
