@@ -21,7 +21,8 @@ use Rattle.crc10.proofs.Whole.{bring-small, right-whole, length-bits}
 
 bring-stays : (r : ℕ) → r < 1024 → r ≢ 0 → bring-down r false ≢ 0
 bring-stays r h n e =
-    elim (or-cases (eqb r 0) (not (eqb (bring-down r false) 0)) (below-at (λ m. eqb m 0 || not (eqb (bring-down m false) 0)) 1024 refl r h)) [
+    let t = below-at (λ m. eqb m 0 || not (eqb (bring-down m false) 0)) 1024 refl r h in
+    elim (or-cases (eqb r 0) (not (eqb (bring-down r false) 0)) t) [
       | inl z ↦ n (eqb-true r 0 z)
       | inr s ↦ eqb-false (bring-down r false) 0 (not-true _ s) e
     ]
@@ -31,19 +32,20 @@ quiet r [] h n e = n
 quiet r (true ∷ bs) h n e = absurd (omega arith)
 quiet r (false ∷ bs) h n e = quiet (bring-down r false) bs (bring-lt r false h) (bring-stays r h n) e
 
--- ---- an odd number of ones: x + 1 divides the generator, so division keeps the parity of the coefficients' sum
+-- ---- an odd number of ones: x + 1 divides the generator, so division keeps the parity of the number of ones
 
-parity : ℕ → ℕ
-parity r = (r + r / 2 + r / 4 + r / 8 + r / 16 + r / 32 + r / 64 + r / 128 + r / 256 + r / 512) % 2
+-- a number with the parity of r's ones: the coefficient of x^k has the parity of r / 2^k
+weight : ℕ → ℕ
+weight r = r + r / 2 + r / 4 + r / 8 + r / 16 + r / 32 + r / 64 + r / 128 + r / 256 + r / 512
 
-bring-parity : (r : ℕ) (b : Bool) → r < 1024 → parity (bring-down r b) ≡ (parity r + coefficient b) % 2
-unfolding parity
+bring-parity : (r : ℕ) (b : Bool) → r < 1024 → weight (bring-down r b) % 2 ≡ (weight r + coefficient b) % 2
+unfolding weight
 bring-parity r true h =
-    eqb-true _ _ (below-at (λ n. eqb (parity (bring-down n true)) ((parity n + 1) % 2)) 1024 refl r h)
+    eqb-true _ _ (below-at (λ n. eqb (weight (bring-down n true) % 2) ((weight n + 1) % 2)) 1024 refl r h)
 bring-parity r false h =
-    eqb-true _ _ (below-at (λ n. eqb (parity (bring-down n false)) ((parity n + 0) % 2)) 1024 refl r h)
+    eqb-true _ _ (below-at (λ n. eqb (weight (bring-down n false) % 2) ((weight n + 0) % 2)) 1024 refl r h)
 
-divide-parity : (r : ℕ) (bs : List Bool) → r < 1024 → parity (divide-on r bs) % 2 ≡ (parity r + ones bs) % 2
+divide-parity : (r : ℕ) (bs : List Bool) → r < 1024 → weight (divide-on r bs) % 2 ≡ (weight r + ones bs) % 2
 divide-parity r [] h = omega arith
 divide-parity r (true ∷ bs) h =
     let e = divide-parity (bring-down r true) bs (bring-lt r true h) in
@@ -54,15 +56,15 @@ divide-parity r (false ∷ bs) h =
     let f = bring-parity r false h in
     omega arith
 
-parity-zero : parity 0 ≡ 0
-unfolding parity
-parity-zero = refl
+weight-zero : weight 0 ≡ 0
+unfolding weight
+weight-zero = refl
 
 odd-found : (bs : List Bool) → ones bs % 2 ≡ 1 → remainder bs ≢ 0
 odd-found bs o e =
     let p = divide-parity 0 bs (omega arith) in
-    let q = ap parity e in
-    let z = parity-zero in
+    let q = ap weight e in
+    let z = weight-zero in
     omega arith
 
 -- ---- two ones at most 95 apart: no power of x up to there leaves the remainder 1

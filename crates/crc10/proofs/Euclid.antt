@@ -16,7 +16,10 @@ use Rattle.crc10.proofs.Whole.{xor-cancel}
 
 shl-xor : (a b k : ℕ) → bitXor a b * 2 ^ k ≡ bitXor (a * 2 ^ k) (b * 2 ^ k)
 shl-xor a b k =
-    sym (ap₂ bitXor (sym (add-zero (a * 2 ^ k))) (sym (add-zero (b * 2 ^ k))) ∙ xor-block k a b 0 0 (pow-pos k) (pow-pos k) ∙ add-zero (bitXor a b * 2 ^ k))
+    sym
+    (ap₂ bitXor (sym (add-zero (a * 2 ^ k))) (sym (add-zero (b * 2 ^ k)))
+    ∙ xor-block k a b 0 0 (pow-pos k) (pow-pos k)
+    ∙ add-zero (bitXor a b * 2 ^ k))
 
 number-add : (n : ℕ) (bs : List Bool) → number-on n bs ≡ n * 2 ^ length bs + number bs
 number-add n [] = omega arith
@@ -26,7 +29,10 @@ number-add n (b ∷ bs) =
     let e = number-add (n * 2 + d) bs in
     let f = number-add (0 * 2 + d) bs in
     let g : (n * 2 + d) * p ≡ n * 2 ^ suc (length bs) + (0 * 2 + d) * p =
-    add-mul (n * 2) d p ∙ ap₂ _+_ (mul-assoc n 2 p ∙ ap (λ (x : ℕ). n * x) (mul-comm 2 p ∙ sym (pow-suc 2 (length bs)))) (ap (λ (x : ℕ). x * p) (sym (zero-add d))) in
+    add-mul (n * 2) d p
+    ∙ ap₂ _+_
+    (mul-assoc n 2 p ∙ ap (λ (x : ℕ). n * x) (mul-comm 2 p ∙ sym (pow-suc 2 (length bs))))
+    (ap (λ (x : ℕ). x * p) (sym (zero-add d))) in
     omega arith
 
 number-lt : (bs : List Bool) → number bs < 2 ^ length bs
@@ -77,7 +83,7 @@ quotient r (b ∷ bs) h =
 leaves : (p : List Bool) → Leaves p (remainder p)
 leaves p = let e = quotient 0 p (omega arith) in (e .0, e .2, divide-lt 0 p (omega arith))
 
--- ---- there is no other remainder: a multiple of the divisor that is below degree 10 is 0
+-- ---- there is no other remainder: a multiple of the generator that is below degree 10 is 0
 
 product-lt : (q : List Bool) → product q generator < 2 ^ (length q + 10)
 product-lt [] = omega arith
@@ -120,14 +126,16 @@ length-same [] ys e = refl
 length-same (x ∷ xs) [] e = absurd (omega arith)
 length-same (x ∷ xs) (y ∷ ys) e = ap suc (length-same xs ys (omega arith))
 
-product-xor : (xs ys : List Bool) → length xs ≡ length ys → product (differences xs ys) generator ≡ bitXor (product xs generator) (product ys generator)
+product-xor : (xs ys : List Bool) → length xs ≡ length ys
+    → product (differences xs ys) generator ≡ bitXor (product xs generator) (product ys generator)
 product-xor [] [] e = refl
 product-xor [] (y ∷ ys) e = absurd (omega arith)
 product-xor (x ∷ xs) [] e = absurd (omega arith)
 product-xor (x ∷ xs) (y ∷ ys) e =
     let f : length xs ≡ length ys = omega arith in
     ap₂ bitXor
-    (ap (λ (n : ℕ). coefficient (unlike x y) * generator * 2 ^ n) (length-same xs ys f) ∙ coefficient-times x y (2 ^ length xs)
+    (ap (λ (n : ℕ). coefficient (unlike x y) * generator * 2 ^ n) (length-same xs ys f)
+    ∙ coefficient-times x y (2 ^ length xs)
     ∙ ap (λ (n : ℕ). bitXor (coefficient x * generator * 2 ^ length xs) (coefficient y * generator * 2 ^ n)) f)
     (product-xor xs ys f)
     ∙ xor-swap (coefficient x * generator * 2 ^ length xs) (coefficient y * generator * 2 ^ length ys) (product xs generator) (product ys generator)

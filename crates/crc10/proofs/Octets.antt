@@ -26,7 +26,8 @@ eight-zeros r h =
 octet-alone : (o : ℕ) → o < 256 → remainder (octet-bits o) ≡ o
 octet-alone o h = eqb-true _ _ (below-at (λ n. eqb (remainder (octet-bits n)) n) 256 refl o h)
 
-pub octet-by-table : (table : List ℕ) → tabled table ≡ true → (r o i low : ℕ) → r < 1024 → o < 256 → i ≡ r / 4 → low ≡ r % 4 * 256 + o
+pub octet-by-table : (table : List ℕ) → tabled table ≡ true → (r o i low : ℕ)
+    → r < 1024 → o < 256 → i ≡ r / 4 → low ≡ r % 4 * 256 + o
     → bitXor (getD table i 0) low ≡ divide-on r (octet-bits o)
 octet-by-table table t r o i low h k ei el =
     let e : getD table i 0 ≡ crc (octet-bits i) =

@@ -1,9 +1,10 @@
 -- Questions: either one was answered no, or all were answered yes. Assumes nothing.
-use mathlib.Core.Path.{_≡_, refl, sym, ap, _∙_}
+use mathlib.Core.Path.{_≡_, refl, sym, ap, subst, _∙_}
 use mathlib.Core.Bool.{Bool, true, false, cond}
 use mathlib.Core.List.{List, [], _∷_}
 use Prim.Native.Nat.{ℕ}
 use native.Mathlib.Omega.{arith}
+use Rattle.std.specs.shelf.Lists.{All}
 use Rattle.std.specs.declared.result.Result.{Result}
 use Rattle.std.specs.declared.result.Result.the-variants.{Ok, Err}
 use Rattle.refusal.specs.Questions.{asked}
@@ -48,3 +49,13 @@ module _ {F T U : Type 0} (f : F) where
   pub refused-alike : (qs : List (Bool × F)) (t : T) (does : Result U F) → asked {Y = Result T F} qs (λ x. Err x) (Ok t) ≡ Err f → asked {Y = Result U F} qs (λ x. Err x) does ≡ Err f
   refused-alike [] t does e = let z : _≡_ {A = ℕ} 0 1 = cc in absurd (omega arith)
   refused-alike (q ∷ qs) t does e = one (q .0) (q .1) (asked qs (λ x. Err x) (Ok t)) (asked qs (λ x. Err x) does) (refused-alike qs t does) e
+
+-- what is so of the refusals of all questions, and of the call's own, is so of the refusal that is given
+module _ {F T : Type 0} (So : F → Type 0) (f : F) where
+  given : (b : Bool) (x : F) (r : Result T F) → So x → (r ≡ Err f → So f) → cond b r (Err x) ≡ Err f → So f
+  given true x r so rest e = rest e
+  given false x r so rest e = let i : x ≡ f = cc in subst So i so
+
+  pub refusal-so : (qs : List (Bool × F)) (does : Result T F) → All (λ q. So (q .1)) qs → (does ≡ Err f → So f) → asked {Y = Result T F} qs (λ x. Err x) does ≡ Err f → So f
+  refusal-so [] does so own e = own e
+  refusal-so (q ∷ qs) does so own e = given (q .0) (q .1) (asked qs (λ x. Err x) does) (so .0) (refusal-so qs does (so .1) own) e

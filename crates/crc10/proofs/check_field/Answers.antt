@@ -23,4 +23,6 @@ returns-in-len2-up c =
     let m = length p - 1 in
     c .ten-bits .ensures
     ∙ ap (λ (x : ℕ). x % 4 * 256 + getD p m 0) (c .from-in-len2-up .ensures)
-    ∙ sym (field-two p n m (omega (arith, ltb-false)) (omega (arith, ltb-false)) (omega (arith, c .typed .payload n)) (omega (arith, c .typed .payload m)))
+    ∙ sym
+    (field-two p n m (omega (arith, ltb-false)) (omega (arith, ltb-false)) (omega (arith, c .typed .payload n))
+    (omega (arith, c .typed .payload m)))

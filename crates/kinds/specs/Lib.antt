@@ -1,0 +1,5 @@
+pub mod Codes
+pub mod Keys
+pub mod Digits
+pub mod Cas
+pub mod Export
