@@ -46,8 +46,11 @@ odd ds = eqb (ones ds % 2) 1
 abbrev pub burst : List Bool → Bool
 burst ds = leb 1 (ones ds) && eqb (ones (drop 10 (from-first ds))) 0
 
+-- the changes that the check finds
+abbrev pub found : List Bool → Bool
+found ds = few ds || odd ds || burst ds
+
 -- A payload of 5 to 12 octets with a right check, changed in such a way, has a wrong one.
 abbrev pub Changes-are-found : Type 0
 Changes-are-found =
-    (p q : List ℕ) → 5 ≤ length p → length p ≤ 12 → length q ≡ length p → right p ≡ true
-    → (few (changed p q) || odd (changed p q) || burst (changed p q)) ≡ true → right q ≡ false
+    (p q : List ℕ) → 5 ≤ length p → length p ≤ 12 → length q ≡ length p → right p ≡ true → found (changed p q) ≡ true → right q ≡ false

@@ -4,3 +4,4 @@ pub mod Asking
 pub mod Writes
 pub mod RoundTrip
 pub mod Values
+pub mod Spoiled

@@ -4,6 +4,7 @@ ghost use Rattle.std.specs.declared.result.Result.the-variants.{Ok, Err};
 ghost use Rattle.refusal.specs.Questions.{asked};
 ghost use Rattle.type3.specs.Contents.{contents-read, contents-of-either};
 ghost use Rattle.type3.specs.Octets.{type-in, framing, read-named, read, read-either};
+ghost use Rattle.type3.specs.Changed.{Changed-is-refused};
 ghost use Rattle.type3.specs.Exactly.{Exactly, Exactly-either};
 use crate::bounded::Redundancy;
 use crate::bounded::Stamp;
@@ -18,6 +19,7 @@ use refusal::Type3Fault;
 pub fn read_payload<K: Kind>(octets: &[u8]) -> Result<Payload<K::Message>, Refusal>
     ensures value { λ r. ⌜ contents-read r ≡ read (K·Kind .model) (now (octets .entry)) ⌝ }
     ensures exact { λ r. ⌜ Exactly (K·Kind .model) (now (octets .entry)) r ⌝ }
+    ensures changed { λ r. ⌜ Changed-is-refused (K·Kind .model) (now (octets .entry)) r ⌝ }
 {
     read_one::<K>(octets)
 }
