@@ -22,6 +22,10 @@ impl CasBits {
     }
 }
 
+const MESSAGE_TYPE: u8 = 3;
+
+const BODY_LEN: usize = 1;
+
 pub struct Cas;
 
 pub impl Kind for Cas as CasKind {
@@ -30,11 +34,11 @@ pub impl Kind for Cas as CasKind {
     ghost model = { cas };
 
     fn message_type() -> u8 {
-        3
+        MESSAGE_TYPE
     }
 
     fn body_len() -> usize {
-        1
+        BODY_LEN
     }
 
     fn write_body(message: CasBits, out: &mut [u8]) {

@@ -8,6 +8,10 @@ use refusal::KindFault;
 use refusal::Refusal;
 use type3::kind::Kind;
 
+const MESSAGE_TYPE: u8 = 2;
+
+const BODY_LEN: usize = 2;
+
 pub struct Digits;
 
 pub impl Kind for Digits as DigitsKind {
@@ -16,11 +20,11 @@ pub impl Kind for Digits as DigitsKind {
     ghost model = { digits };
 
     fn message_type() -> u8 {
-        2
+        MESSAGE_TYPE
     }
 
     fn body_len() -> usize {
-        2
+        BODY_LEN
     }
 
     fn write_body(message: Digit, out: &mut [u8]) {

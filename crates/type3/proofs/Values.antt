@@ -29,8 +29,8 @@ use Rattle.type3.proofs.RoundTrip.{type-written, asked-written, named-written,
 same-redundancy : (r s : Redundancy) → r .value ≡ s .value → r ≡ s
 same-redundancy r s e = λ i. record { value = e i; low = isProp→PathP (λ j. ltb (e j) 4 ≡ true) (λ j. search props) (r .low) (s .low) i }
 
-same-stamp : (r s : Stamp) → r .value ≡ s .value → r ≡ s
-same-stamp r s e = λ i. record { value = e i; low = isProp→PathP (λ j. ltb (e j) 16384 ≡ true) (λ j. search props) (r .low) (s .low) i }
+same-stamp : (r s : Stamp) → r .ms ≡ s .ms → r ≡ s
+same-stamp r s e = λ i. record { ms = e i; low = isProp→PathP (λ j. ltb (e j) 16384 ≡ true) (λ j. search props) (r .low) (s .low) i }
 
 pub same-payload : {M : Type 0} (p q : Payload M) → contents p ≡ contents q → p ≡ q
 same-payload p q e =

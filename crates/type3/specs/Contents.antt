@@ -8,7 +8,7 @@ use Rattle.type3.specs.declared.payload.Either.{Either}
 use Rattle.type3.specs.declared.payload.Either.the-variants.{First, Second}
 
 abbrev pub contents : {M : Type 0} → Payload M → Contents M
-contents p = record { redundancy = p .redundancy .value; stamp = p .stamp .value; message = p .message }
+contents p = record { redundancy = p .redundancy .value; stamp = p .stamp .ms; message = p .message }
 
 abbrev pub contents-read : {M : Type 0} → Result (Payload M) Refusal → Result (Contents M) Refusal
 contents-read (Ok p) = Ok (contents p)

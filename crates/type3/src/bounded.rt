@@ -41,42 +41,38 @@ impl Redundancy {
 // A time in milliseconds, modulo 16,384.
 #[derive(Clone, Copy, PartialEq, Eq, Debug)]
 pub struct Stamp {
-    value: u16,
-    ghost low: { ltb value 16384 ≡ true },
+    ms: u16,
+    ghost low: { ltb ms 16384 ≡ true },
 }
 
 impl Stamp {
-    pub fn new(value: u16) -> Option<Stamp>
-        ensures { λ r. ⌜ mapped (λ x. x .value) r ≡ cond (ltb value 16384) (Some value) None ⌝ }
+    pub fn new(ms: u16) -> Option<Stamp>
+        ensures { λ r. ⌜ mapped (λ x. x .ms) r ≡ cond (ltb ms 16384) (Some ms) None ⌝ }
     {
-        if value < 16384 {
-            Some(Stamp { value })
-        } else {
-            None
-        }
+        if ms < 16384 { Some(Stamp { ms }) } else { None }
     }
 
     // The stamp of a packet that is made for this time.
     pub fn at(time: u64) -> Stamp
-        ensures { λ r. ⌜ r .value ≡ time % 16384 ⌝ }
+        ensures { λ r. ⌜ r .ms ≡ time % 16384 ⌝ }
     {
         Stamp {
-            value: (time % 16384) as u16,
+            ms: (time % 16384) as u16,
         }
     }
 
     // The stamp in the first two octets of a payload: their lower fourteen bits.
     pub(crate) fn in_octets(first: u8, second: u8) -> Stamp
-        ensures { λ r. ⌜ r .value ≡ first % 64 * 256 + second ⌝ }
+        ensures { λ r. ⌜ r .ms ≡ first % 64 * 256 + second ⌝ }
     {
         Stamp {
-            value: u16::from(first % 64) * 256 + u16::from(second),
+            ms: u16::from(first % 64) * 256 + u16::from(second),
         }
     }
 
     pub fn get(self) -> u16
-        ensures { λ r. ⌜ r ≡ self .value ⌝ }
+        ensures { λ r. ⌜ r ≡ self .ms ⌝ }
     {
-        self.value
+        self.ms
     }
 }
