@@ -1,4 +1,5 @@
-// Dials a number: each key, and the end of its tone, goes out as a type 3 payload and is read back.
+// Dials a number and talks: each key, and the end of its tone, goes out as a type 3 payload and is read back, and the audio
+// of two talk spurts is labelled.
 use exchange::there_and_back;
 use kinds::digit::DTMF;
 use kinds::digit::Digit;
@@ -10,6 +11,7 @@ use show::Octets;
 use show::OctetsDisplay;
 use std::env;
 use std::error::AnyError;
+use talk::talk;
 use type3::bounded::Redundancy;
 use type3::bounded::Stamp;
 use type3::payload::Payload;
@@ -17,6 +19,7 @@ use type3::reading::read_payload;
 
 mod exchange;
 mod show;
+mod talk;
 
 // What is dialled where no argument says otherwise: two keys, a character that is no key, and a third key.
 const NUMBER: &str = "5#x0";
@@ -40,7 +43,8 @@ fn run(rt: &LibcRuntime) -> Result<(), AnyError> {
         Some(number) => dial(rt, number.as_str())?,
         None => dial(rt, NUMBER)?,
     }
-    hostile(rt)
+    hostile(rt)?;
+    talk(rt)
 }
 
 // Each key of the number.
@@ -73,11 +77,8 @@ fn release(rt: &LibcRuntime, time: u64) -> Result<(), AnyError> {
 
 // A digit there and back, as the first copy of an event.
 fn send(rt: &LibcRuntime, time: u64, digit: Digit) -> Result<(), AnyError> {
-    let Some(redundancy) = Redundancy::new(0) else {
-        return Ok(());
-    };
     let payload = Payload {
-        redundancy,
+        redundancy: Redundancy::first(),
         stamp: Stamp::at(time),
         message: digit,
     };

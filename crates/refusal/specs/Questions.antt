@@ -5,6 +5,8 @@ use Prim.Native.Nat.{ℕ}
 use lib.Dec.{eqb, leb}
 use Rattle.std.specs.declared.option.Option.{Option}
 use Rattle.std.specs.declared.option.Option.the-variants.{Some, None}
+use Rattle.std.specs.declared.result.Result.{Result}
+use Rattle.std.specs.declared.result.Result.the-variants.{Err}
 
 -- A question is a pair: whether it is so, and the refusal where it is not. The questions are put in order. The first that
 -- is answered no refuses; where all are answered yes, the call does what it does.
@@ -16,7 +18,18 @@ asked (q ∷ qs) refuse does = cond (q .0) (asked qs refuse does) (refuse (q .1)
 abbrev pub first-no : {X : Type 0} → List (Bool × X) → Option X
 first-no qs = asked qs (λ x. Some x) None
 
--- two tests that questions use
+-- What a call with a state does, as its answer and the state after it: where nothing is refused, what it does, and otherwise the
+-- refusal, with the state as it was.
+abbrev pub unless : {S X F : Type 0} → Option F → S → Result X F × S → Result X F × S
+unless None s does = does
+unless (Some f) s does = (Err f, s)
+
+-- ---- tests that questions use
+
+-- a time is a whole number of milliseconds, up to 2^40 - 1
+abbrev pub is-time : ℕ → Bool
+is-time t = leb t 1099511627775
+
 abbrev pub from-to : ℕ → ℕ → ℕ → Bool
 from-to low high n = leb low n && leb n high
 

@@ -2,6 +2,8 @@
 ghost use mathlib.Core.Path.{_≡_};
 ghost use Rattle.refusal.specs.Numbers.{number-of, layer-of, place-of, cause-of};
 
+pub mod times;
+
 // Loading a profile.
 #[derive(Clone, Copy, PartialEq, Eq, Debug)]
 pub enum ProfileFault {

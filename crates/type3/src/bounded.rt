@@ -1,7 +1,7 @@
 // The two numbers at the head of a type 3 payload, each with its bound in its type.
 ghost use mathlib.Core.Path.{_≡_};
 ghost use mathlib.Core.Bool.{true, cond};
-ghost use Prim.Native.Nat.{_+_, _*_, _/_, _%_};
+ghost use Prim.Native.Nat.{_+_, _*_, _/_, _%_, min};
 ghost use lib.Dec.{ltb};
 ghost use Rattle.std.specs.Options.{mapped};
 ghost use Rattle.std.specs.declared.option.Option.the-variants.{Some, None};
@@ -24,6 +24,26 @@ impl Redundancy {
         }
     }
 
+    // That of the first copy.
+    pub fn first() -> Redundancy
+        ensures { λ r. ⌜ r .value ≡ 0 ⌝ }
+    {
+        Redundancy { value: 0 }
+    }
+
+    // That of the packet after this one: the next copy, and after the copies a refresh.
+    pub fn next(self) -> Redundancy
+        ensures { λ r. ⌜ r .value ≡ min (self .value + 1) 3 ⌝ }
+    {
+        if self.value < 3 {
+            Redundancy {
+                value: self.value + 1,
+            }
+        } else {
+            self
+        }
+    }
+
     // The redundancy in the first octet of a payload: its upper two bits.
     pub(crate) fn in_octet(first: u8) -> Redundancy
         ensures { λ r. ⌜ r .value ≡ first / 64 ⌝ }
@@ -34,7 +54,8 @@ impl Redundancy {
     pub fn get(self) -> u8
         ensures { λ r. ⌜ r ≡ self .value ⌝ }
     {
-        self.value
+        let Redundancy { value } = self;
+        value
     }
 }
 

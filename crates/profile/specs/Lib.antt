@@ -1,0 +1,5 @@
+pub mod Questions
+pub mod Loading
+pub mod Labels
+pub mod Guarantees
+pub mod Examples
