@@ -1,0 +1,5 @@
+pub mod Bounds
+pub mod Sending
+pub mod Seen
+pub mod Audio
+pub mod Runs
