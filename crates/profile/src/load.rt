@@ -18,6 +18,8 @@ pub enum LoadError {
     Memory,
 }
 
+const MAX_ENTRIES: usize = 32;
+
 impl Profile {
     // The profile of the offered entries, if they pass every question.
     pub fn load(heap: Global, offered: &[Entry]) -> Result<Profile, LoadError>
@@ -37,7 +39,7 @@ impl Profile {
 fn refusal_of(offered: &[Entry]) -> Option<Refusal>
     ensures { λ r. ⌜ r ≡ refusal (now (offered .entry)) ⌝ }
 {
-    if offered.len() < 1 || offered.len() > 32 {
+    if offered.is_empty() || offered.len() > MAX_ENTRIES {
         return Some(Refusal::Profile(ProfileFault::EntryCount, 0));
     }
     for (place, entry) in offered.iter().enumerate() {
