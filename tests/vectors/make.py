@@ -244,6 +244,7 @@ def flipped(octets, places):
 
 
 def damage():
+    """One, two and three changed bits and bursts of up to ten, all of which the check finds; four that it does not; other lengths."""
     sent = [cas_octets(0, 0, 0), cas_octets(3, 16383, 15), digit_octets(0, 0, 0, 5, -10), digit_octets(2, 9999, 3, 31, -31)]
     for octets in sent[1:3]:
         for place in range(8 * len(octets)):
@@ -254,9 +255,10 @@ def damage():
             for _ in range(12):
                 read(flipped(octets, rng.sample(range(bits), count)), "refused 24")
         for _ in range(12):
-            low = rng.randrange(bits - 9)
-            places = [low, low + 9, *(low + i for i in range(1, 9) if rng.random() < 0.5)]
-            read(flipped(octets, places), "refused 24")
+            width = rng.randint(4, 10)
+            low = rng.randrange(bits - width + 1)
+            between = [place for place in range(low + 1, low + width - 1) if rng.random() < 0.5]
+            read(flipped(octets, [low, *between, low + width - 1]), "refused 24")
         four_bits(octets)
         for length in range(len(octets)):
             read(octets[:length])
@@ -296,7 +298,7 @@ def wide():
 def bad_lines():
     for line in ("", " ", "cas", "cas 0 0", "cas 0 0 000", "cas 0 0 00000", "cas 0 0 0002", "cas 0 0 0000 0",
                  "cas 4 0 0000", "cas 255 0 0000", "cas -1 0 0000", "cas 0 16384 0000", "cas 0 65535 0000", "cas 0 x 0000",
-                 "digit 4 0 0 5 -10", "digit 0 16384 0 5 -10", "digit 0 0 0 5", "digit 0 0 0 5 128", "digit 0 0 0 5 -129",
+                 "digit 4 0 0 5 -10", "digit 9 0 4 5 0", "digit 0 16384 0 5 -10", "digit 0 0 0 5", "digit 0 0 0 5 128", "digit 0 0 0 5 -129",
                  "digit 0 0 256 5 0", "digit 0 0 0 256 0", "digit 0 0 zero 5 0", "key 4 0 5 0", "key 0 16384 5 0",
                  "key 0 0 55 0", "key 0 0  0", "key 0 0 5", "wide 4 0 1", "wide 0 16384 1", "wide 0 0 one",
                  "read", "read ", "read 0", "read 00000", "read 0000000C6G", "read 00 00 00 0C 66", "read 0000000c66",

@@ -21,7 +21,7 @@ pub fn cas(words: &[&str]) -> Option<Answer> {
         return None;
     };
     let bits = bits_of(digits.as_bytes())?;
-    write::<Cas>(redundancy, stamp, bits)
+    Some(write::<Cas>(Head::of(redundancy, stamp)?, bits))
 }
 
 pub fn digit(words: &[&str]) -> Option<Answer> {
@@ -49,7 +49,7 @@ pub fn wide(words: &[&str]) -> Option<Answer> {
     };
     let code = code.parse::<u8>().ok()?;
     let mark = Mark::of_code(code)?;
-    write::<Wide>(redundancy, stamp, mark)
+    Some(write::<Wide>(Head::of(redundancy, stamp)?, mark))
 }
 
 fn write_key(redundancy: &str, stamp: &str, key: &str, dbm0: &str) -> Option<Answer> {
@@ -64,21 +64,36 @@ fn write_key(redundancy: &str, stamp: &str, key: &str, dbm0: &str) -> Option<Ans
 
 // A digit that was made, or the refusal to make it.
 fn write_made(redundancy: &str, stamp: &str, made: Result<Digit, Refusal>) -> Option<Answer> {
+    let head = Head::of(redundancy, stamp)?;
     match made {
-        Ok(digit) => write::<Digits>(redundancy, stamp, digit),
+        Ok(digit) => Some(write::<Digits>(head, digit)),
         Err(refusal) => Some(Answer::Refused(refusal)),
     }
 }
 
-fn write<K: Kind>(redundancy: &str, stamp: &str, message: K::Message) -> Option<Answer> {
-    let redundancy = redundancy.parse::<u8>().ok()?;
-    let stamp = stamp.parse::<u16>().ok()?;
-    let Some(redundancy) = Redundancy::new(redundancy) else {
-        return None;
-    };
-    let Some(stamp) = Stamp::new(stamp) else {
-        return None;
-    };
+// The two numbers at the head of a payload.
+#[derive(Clone, Copy)]
+struct Head {
+    redundancy: Redundancy,
+    stamp: Stamp,
+}
+
+impl Head {
+    fn of(redundancy: &str, stamp: &str) -> Option<Head> {
+        let redundancy = redundancy.parse::<u8>().ok()?;
+        let stamp = stamp.parse::<u16>().ok()?;
+        let Some(redundancy) = Redundancy::new(redundancy) else {
+            return None;
+        };
+        let Some(stamp) = Stamp::new(stamp) else {
+            return None;
+        };
+        Some(Head { redundancy, stamp })
+    }
+}
+
+fn write<K: Kind>(head: Head, message: K::Message) -> Answer {
+    let Head { redundancy, stamp } = head;
     let payload = Payload {
         redundancy,
         stamp,
@@ -86,7 +101,7 @@ fn write<K: Kind>(redundancy: &str, stamp: &str, message: K::Message) -> Option<
     };
     let mut octets = [0; 12];
     match write_payload::<K>(payload, &mut octets) {
-        Ok(count) => Some(Answer::Octets(octets, count)),
-        Err(refusal) => Some(Answer::Refused(refusal)),
+        Ok(count) => Answer::Octets(octets, count),
+        Err(refusal) => Answer::Refused(refusal),
     }
 }
