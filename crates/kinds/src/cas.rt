@@ -5,7 +5,7 @@ use refusal::KindFault;
 use refusal::Refusal;
 use type3::kind::Kind;
 
-#[derive(Clone, Copy, PartialEq, Eq, Debug)]
+#[derive(Clone, Copy)]
 pub struct CasBits {
     pub a: bool,
     pub b: bool,

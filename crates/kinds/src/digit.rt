@@ -19,7 +19,7 @@ pub const MF_R2_BACKWARD: u8 = 3;
 pub const TONE_OFF: u8 = 31;
 
 // The level is in dB below 1 mW, 0 to 31. No digit exists whose code its type lacks.
-#[derive(Clone, Copy, PartialEq, Eq, Debug)]
+#[derive(Clone, Copy)]
 pub struct Digit {
     level: u8,
     system: u8,

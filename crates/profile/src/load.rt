@@ -7,12 +7,10 @@ use crate::profile::Profile;
 use crate::questions::entry_refusal;
 use refusal::ProfileFault;
 use refusal::Refusal;
-use refusal::RefusalDebug;
-use refusal::RefusalPartialEq;
 use std::alloc::Global;
 
 // Why there is no profile: the entries are refused, or there is no memory to store them.
-#[derive(Clone, Copy, PartialEq, Eq, Debug)]
+#[derive(Clone, Copy)]
 pub enum LoadError {
     Refused(Refusal),
     Memory,

@@ -1,11 +1,12 @@
 // Why a call is refused: the layer that asked, and the question that was answered no.
 ghost use mathlib.Core.Path.{_≡_};
 ghost use Rattle.refusal.specs.Numbers.{number-of, layer-of, place-of, cause-of};
+use std::fmt;
 
 pub mod times;
 
 // Loading a profile.
-#[derive(Clone, Copy, PartialEq, Eq, Debug)]
+#[derive(Clone, Copy)]
 pub enum ProfileFault {
     // not 1 to 32 entries
     EntryCount,
@@ -24,7 +25,7 @@ pub enum ProfileFault {
 }
 
 // Sending audio, an event, or what is due.
-#[derive(Clone, Copy, PartialEq, Eq, Debug)]
+#[derive(Clone, Copy)]
 pub enum SendingFault {
     TimeOutOfRange,
     // the profile has no entry at this place
@@ -44,7 +45,7 @@ pub enum SendingFault {
 }
 
 // An arrival, before its payload is read.
-#[derive(Clone, Copy, PartialEq, Eq, Debug)]
+#[derive(Clone, Copy)]
 pub enum ArrivalFault {
     TimeOutOfRange,
     // before the last arrival that was not refused
@@ -56,7 +57,7 @@ pub enum ArrivalFault {
 }
 
 // Reading a type 3 payload.
-#[derive(Clone, Copy, PartialEq, Eq, Debug)]
+#[derive(Clone, Copy)]
 pub enum Type3Fault {
     // not 5 to 12 octets
     PayloadSize,
@@ -68,7 +69,7 @@ pub enum Type3Fault {
 }
 
 // A kind of message.
-#[derive(Clone, Copy, PartialEq, Eq, Debug)]
+#[derive(Clone, Copy)]
 pub enum KindFault {
     // the digit type is above 3
     DigitType,
@@ -79,7 +80,7 @@ pub enum KindFault {
 }
 
 // Placing an arrival in time.
-#[derive(Clone, Copy, PartialEq, Eq, Debug)]
+#[derive(Clone, Copy)]
 pub enum PlacingFault {
     // two elapsed times are equally near
     EquallyNear,
@@ -88,7 +89,7 @@ pub enum PlacingFault {
 }
 
 // The layers of the product, each with its own questions.
-#[derive(Clone, Copy, PartialEq, Eq, Debug)]
+#[derive(Clone, Copy)]
 pub enum Layer {
     Profile,
     Sending,
@@ -99,7 +100,7 @@ pub enum Layer {
 }
 
 // A refusal. Of a profile it also has the place of the entry that is wrong, from 0.
-#[derive(Clone, Copy, PartialEq, Eq, Debug)]
+#[derive(Clone, Copy)]
 pub enum Refusal {
     Profile(ProfileFault, usize),
     Sending(SendingFault),
@@ -178,5 +179,12 @@ impl Refusal {
             Refusal::Kind(KindFault::Body(cause)) => Some(cause),
             _ => None,
         }
+    }
+}
+
+pub impl fmt::Debug for Refusal as RefusalDebug {
+    fn fmt<W: fmt::Write>(&self, f: &mut fmt::Formatter<W>) -> fmt::Result {
+        let number = self.number();
+        write!(f, "refused with {number}")
     }
 }

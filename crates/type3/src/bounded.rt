@@ -7,7 +7,7 @@ ghost use Rattle.std.specs.Options.{mapped};
 ghost use Rattle.std.specs.declared.option.Option.the-variants.{Some, None};
 
 // 0, 1 and 2 for the copies of an event, 3 for a refresh.
-#[derive(Clone, Copy, PartialEq, Eq, Debug)]
+#[derive(Clone, Copy)]
 pub struct Redundancy {
     value: u8,
     ghost low: { ltb value 4 ≡ true },
@@ -60,7 +60,7 @@ impl Redundancy {
 }
 
 // A time in milliseconds, modulo 16,384.
-#[derive(Clone, Copy, PartialEq, Eq, Debug)]
+#[derive(Clone, Copy)]
 pub struct Stamp {
     ms: u16,
     ghost low: { ltb ms 16384 ≡ true },
