@@ -308,8 +308,19 @@ def bad_lines():
 
 # ---- the dialled number
 
+def due_of(event, code, until):
+    """The packets of a digit until the next event: three copies 5 ms apart, and a refresh each 500 ms but for tone-off."""
+    packets = [(event + 5 * copy, copy, event) for copy in range(3)]
+    if code != TONE_OFF:
+        packets += [(moment, 3, moment) for moment in range(event + 510, until, 500)]
+    for moment, redundancy, made_for in packets:
+        stamp = made_for % 16384
+        octets = digit_octets(redundancy, stamp, 0, code, -10)
+        yield f"  {moment}: {shown(octets)} reads code {code}, level 10, redundancy {redundancy}, stamp {stamp}"
+
+
 def dialled():
-    """The lines for each key of the number, with the end of its tone 70 ms later, and for two hostile payloads."""
+    """The lines for each key of the number, held for 600 ms, and for two hostile payloads."""
     lines = []
     for place, key in enumerate("5#x0"):
         time = 10000 * place
@@ -317,10 +328,8 @@ def dialled():
             lines.append(f"key {key}: refused with 18")
             continue
         lines.append(f"key {key} at {time}")
-        for moment, code in ((time, KEYS.index(key)), (time + 70, TONE_OFF)):
-            stamp = moment % 16384
-            octets = digit_octets(0, stamp, 0, code, -10)
-            lines.append(f"  {shown(octets)} reads code {code}, level 10, stamp {stamp}")
+        lines += due_of(time, KEYS.index(key), time + 600)
+        lines += due_of(time + 600, TONE_OFF, time + 10000)
     for octets in (bytes.fromhex("00000A050AEA"), bytes.fromhex("00000A05")):
         lines += [f"octets {shown(octets)}", f"  refused with {refused(octets, (DIGITS,))[0]}"]
     return lines

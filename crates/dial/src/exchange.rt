@@ -1,25 +1,31 @@
-// One digit over a perfect line.
+// One digit stream over a perfect line.
 ghost use mathlib.Core.Path.{_≡_};
-ghost use Rattle.std.specs.declared.result.Result.the-variants.{Ok};
-ghost use Rattle.type3.specs.Contents.{contents};
-ghost use Rattle.type3.specs.Octets.{written};
+ghost use Rattle.sending.specs.Seen.{seen};
+ghost use Rattle.sending.specs.Sending.{due, due-of};
 ghost use Rattle.kinds.specs.Digits.{digits};
+ghost use Rattle.dial.specs.Heard.{heard, says};
 use kinds::digit::Digit;
 use kinds::digits::Digits;
 use kinds::digits::DigitsKind;
 use refusal::Refusal;
+use sending::sender::Sender;
 use type3::payload::Payload;
 use type3::reading::read_payload;
-use type3::writing::write_payload;
 
-// Writes a payload and reads the octets: the same payload comes back.
-pub fn there_and_back(
-    payload: Payload<Digit>,
+// Asks what is due at a time, and has the far end read it: it reads the packet that was due.
+pub fn pass(
+    sender: &mut Sender<Digits>,
+    time: u64,
     octets: &mut [u8; 6],
-) -> Result<Payload<Digit>, Refusal>
-    ensures back { λ r. ⌜ r ≡ Ok payload ⌝ }
-    ensures octets { λ _. ⌜ now (octets .exit) ≡ written digits (contents payload) ⌝ }
+) -> Result<Option<Payload<Digit>>, Refusal>
+    ensures hears { λ r. ⌜ heard r ≡ says (due-of (seen (now (sender .entry))) time) (due digits (seen (now (sender .entry))) time 6 .0) ⌝ }
+    ensures after { λ _. ⌜ seen (now (sender .exit)) ≡ due digits (seen (now (sender .entry))) time 6 .1 ⌝ }
 {
-    let _count = write_payload::<Digits>(payload, octets)?;
-    read_payload::<Digits>(octets)
+    match sender.due(time, octets)? {
+        None => Ok(None),
+        Some(_) => {
+            let payload = read_payload::<Digits>(octets)?;
+            Ok(Some(payload))
+        }
+    }
 }

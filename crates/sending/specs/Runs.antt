@@ -153,5 +153,5 @@ module _ {M : Type 0} (k : Meaning M) where
   -- as planned, for as long as times go.
   abbrev pub Keeps-its-moments : Type 0
   Keeps-its-moments =
-      (s : Stream M) (t : ℕ) (m : M) (room n : ℕ) → on.event s t m .0 ≡ Ok tt → leb (k .len + 4) room ≡ true → is-time (t + n) ≡ true
+      (s : Stream M) (t : ℕ) (m : M) (room n : ℕ) → on.event s t m .0 ≡ Ok tt → leb (k .len + 4) room ≡ true → is-time (t + n - 1) ≡ true
       → history k (on.event s t m .1) (each-millisecond t room n) ≡ planned (record { time = t; message = m }) 0 n

@@ -6,6 +6,7 @@ ghost use Rattle.std.specs.Options.{mapped};
 ghost use Rattle.refusal.specs.Questions.{first-no};
 ghost use Rattle.type3.specs.Contents.{contents};
 ghost use Rattle.sending.specs.Sending.{said-by, new-sender, event-questions, event, due-of, due-questions, next-refresh, after-packet, due};
+ghost use Rattle.sending.specs.Runs.{Sends-lawfully, Keeps-its-moments};
 ghost use Rattle.sending.specs.Seen.{seen, packet-seen, counted, put};
 use crate::event::Event;
 use crate::event::Packet;
@@ -32,8 +33,17 @@ impl<K: Kind> Sender<K> {
         }
     }
 
-    // An event at a time: it ends what was due of an earlier one, and its message is in force.
+    // An event at a time: it ends what was due of an earlier one, and its message is in force. Whatever is called on a new
+    // stream, what it sends is lawful.
     pub fn event(&mut self, time: u64, message: K::Message) -> Result<(), Refusal>
+        ensures value { λ r. ⌜ r ≡ event (seen (now (self .entry))) time message .0 ⌝ }
+        ensures after { λ _. ⌜ seen (now (self .exit)) ≡ event (seen (now (self .entry))) time message .1 ⌝ }
+        ensures lawful { λ _. ⌜ Sends-lawfully (K·Kind .model) ⌝ }
+    {
+        self.accept(time, message)
+    }
+
+    fn accept(&mut self, time: u64, message: K::Message) -> Result<(), Refusal>
         ensures value { λ r. ⌜ r ≡ event (seen (now (self .entry))) time message .0 ⌝ }
         ensures after { λ _. ⌜ seen (now (self .exit)) ≡ event (seen (now (self .entry))) time message .1 ⌝ }
     {
@@ -70,8 +80,17 @@ impl<K: Kind> Sender<K> {
     }
 
     // What is due at a time: the first unsent packet whose moment has come is written to the start of `out`, and its length
-    // is answered.
+    // is answered. Called at every millisecond after an event, it sends each packet at its moment.
     pub fn due(&mut self, time: u64, out: &mut [u8]) -> Result<Option<usize>, Refusal>
+        ensures value { λ r. ⌜ r ≡ counted (due (K·Kind .model) (seen (now (self .entry))) time (length (now (out .entry))) .0) ⌝ }
+        ensures after { λ _. ⌜ seen (now (self .exit)) ≡ due (K·Kind .model) (seen (now (self .entry))) time (length (now (out .entry))) .1 ⌝ }
+        ensures octets { λ _. ⌜ now (out .exit) ≡ put (now (out .entry)) (due (K·Kind .model) (seen (now (self .entry))) time (length (now (out .entry))) .0) ⌝ }
+        ensures moments { λ _. ⌜ Keeps-its-moments (K·Kind .model) ⌝ }
+    {
+        self.send_due(time, out)
+    }
+
+    fn send_due(&mut self, time: u64, out: &mut [u8]) -> Result<Option<usize>, Refusal>
         ensures value { λ r. ⌜ r ≡ counted (due (K·Kind .model) (seen (now (self .entry))) time (length (now (out .entry))) .0) ⌝ }
         ensures after { λ _. ⌜ seen (now (self .exit)) ≡ due (K·Kind .model) (seen (now (self .entry))) time (length (now (out .entry))) .1 ⌝ }
         ensures octets { λ _. ⌜ now (out .exit) ≡ put (now (out .entry)) (due (K·Kind .model) (seen (now (self .entry))) time (length (now (out .entry))) .0) ⌝ }

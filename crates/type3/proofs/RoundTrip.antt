@@ -83,6 +83,12 @@ module _ {M : Type 0} (k : Meaning M) (law : Lawful k) (x : Contents M) where
       ∙ ap (λ y. says (written k x) (or-cause y)) (law .reads (x .message))
       ∙ ap₂ (λ (u v : ℕ). Ok (record { redundancy = u; stamp = v; message = x .message })) r s
 
+  pub read-written : x .redundancy < 4 → x .stamp < 16384 → read k (written k x) ≡ Ok x
+  read-written lr ls =
+      asked-yes (λ f. Err f) (read-named k (written k x)) (questions (written k x) (eqb (type-in (written k x)) (k .message-type)))
+      (asked-written _ (eq-eqb _ _ type-written))
+      ∙ named-written lr ls
+
   -- what a payload says, where its parts are these, is what was written to it
   record Found (o : List ℕ) : Type 0 where
     pub reads : k .read (body-in o) ≡ Ok (x .message)

@@ -24,7 +24,7 @@ use Rattle.type3.specs.declared.bounded.Stamp.{Stamp}
 use Rattle.type3.specs.declared.payload.Payload.{Payload}
 use Rattle.type3.specs.declared.payload.Either.{Either}
 use Rattle.type3.specs.declared.payload.Either.the-variants.{First, Second}
-use Rattle.type3.proofs.RoundTrip.{type-written, asked-written, named-written, named-back}
+use Rattle.type3.proofs.RoundTrip.{type-written, asked-written, named-written, read-written, named-back}
 
 same-redundancy : (r s : Redundancy) → r .value ≡ s .value → r ≡ s
 same-redundancy r s e = λ i. record { value = e i; low = isProp→PathP (λ j. ltb (e j) 4 ≡ true) (λ j. search props) (r .low) (s .low) i }
@@ -42,10 +42,8 @@ same-payload p q e =
 -- ---- one kind
 
 module _ {M : Type 0} (k : Meaning M) (law : Lawful k) where
-  read-written : (p : Payload M) → read k (written k (contents p)) ≡ Ok (contents p)
-  read-written p =
-      asked-yes (λ f. Err f) (read-named k (written k (contents p))) (questions (written k (contents p)) _) (asked-written k law (contents p) _ (eq-eqb _ _ (type-written k law (contents p))))
-      ∙ named-written k law (contents p) (ltb-true _ _ (p .redundancy .low)) (ltb-true _ _ (p .stamp .low))
+  payload-written : (p : Payload M) → read k (written k (contents p)) ≡ Ok (contents p)
+  payload-written p = read-written k law (contents p) (ltb-true _ _ (p .redundancy .low)) (ltb-true _ _ (p .stamp .low))
 
   read-back : (o : List ℕ) → ((i : ℕ) → getD o i 0 < 256) → (x : Contents M) → read k o ≡ Ok x → o ≡ written k x
   read-back o fits x e =
@@ -59,12 +57,12 @@ module _ {M : Type 0} (k : Meaning M) (law : Lawful k) where
   pub exactly : (o : List ℕ) → ((i : ℕ) → getD o i 0 < 256) → (r : Result (Payload M) Refusal) → contents-read r ≡ read k o → Exactly k o r
   exactly o fits r e = record {
     written = λ p i. read-back o fits (contents p) (sym e ∙ ap contents-read i);
-    read = λ p h. as-read r p (e ∙ ap (read k) h ∙ read-written p);
+    read = λ p h. as-read r p (e ∙ ap (read k) h ∙ payload-written p);
   }
 
   pub no-two-alike : No-two-alike k
   no-two-alike p q e =
-      let i : _≡_ {A = Result (Contents M) Refusal} (Ok (contents p)) (Ok (contents q)) = sym (read-written p) ∙ ap (read k) e ∙ read-written q in
+      let i : _≡_ {A = Result (Contents M) Refusal} (Ok (contents p)) (Ok (contents q)) = sym (payload-written p) ∙ ap (read k) e ∙ payload-written q in
       let j : contents p ≡ contents q = cc in
       same-payload p q j
 
