@@ -4,7 +4,7 @@
     make.py          writes crates/vectors/stdin and crates/vectors/stdout
     make.py --dial   prints what crates/dial is to write, and writes it to crates/dial/stdout
 
-The CRC is that of Debian's python3-crccheck. No case hangs on chance: the seed is fixed.
+rules.py says how payloads are made. No case hangs on chance: the seed is fixed.
 """
 
 import random
@@ -12,13 +12,12 @@ import sys
 from itertools import combinations
 from pathlib import Path
 
-from crccheck.crc import Crc10
+sys.dont_write_bytecode = True
+from rules import CAS, DIGITS, KEYS, TONE_OFF, cas_octets, digit_octets, framed, is_right, level_of, shown
 
 CRATES = Path(__file__).resolve().parents[2] / "crates"
-DIGITS, CAS, WIDE = 2, 3, 63
-KEYS = "0123456789*#ABCD"
+WIDE = 63
 CODES = {0: range(0, 16), 1: range(0, 15), 2: range(1, 16), 3: range(1, 16)}
-TONE_OFF = 31
 LENGTH = {DIGITS: 6, CAS: 5, WIDE: 12}
 STAMPS = [0, 1, 70, 255, 256, 257, 500, 8191, 8192, 10000, 13616, 16128, 16382, 16383]
 LEVELS = [-128, -127, -32, -31, -30, -29, -17, -10, -2, -1, 0, 1, 3, 127]
@@ -29,28 +28,6 @@ cases = []
 
 # ---- the rules
 
-def is_right(octets):
-    """The whole payload is a multiple of the generator."""
-    return Crc10.calc(octets) == 0
-
-
-# the check that takes away what the rest of a payload leaves
-CHECK = {Crc10.calc(check.to_bytes(2, "big")): check for check in range(1024)}
-
-
-def framed(redundancy, stamp, body, message_type):
-    """A payload with a right check, whatever it says."""
-    front = bytes([redundancy << 6 | stamp >> 8, stamp & 0xFF]) + bytes(body)
-    check = CHECK[Crc10.calc(front + bytes([message_type << 2, 0]))]
-    octets = front + bytes([message_type << 2 | check >> 8, check & 0xFF])
-    assert is_right(octets)
-    return octets
-
-
-def level_of(dbm0):
-    return min(max(-dbm0, 0), 31)
-
-
 def has_code(system, code):
     return code == TONE_OFF or code in CODES[system]
 
@@ -60,14 +37,6 @@ def refused_digit(system, code):
     if system > 3:
         return 17
     return None if has_code(system, code) else 18
-
-
-def digit_octets(redundancy, stamp, system, code, dbm0):
-    return framed(redundancy, stamp, [level_of(dbm0), system << 5 | code], DIGITS)
-
-
-def cas_octets(redundancy, stamp, bits):
-    return framed(redundancy, stamp, [bits], CAS)
 
 
 def wide_octets(redundancy, stamp, code):
@@ -129,10 +98,6 @@ def told(octets):
 
 
 # ---- cases
-
-def shown(octets):
-    return octets.hex(" ").upper()
-
 
 def word(octets):
     return octets.hex().upper() or "-"
@@ -349,7 +314,6 @@ def write_lines(path, lines):
 
 
 def main():
-    assert Crc10.calc(b"123456789") == 0x199
     if sys.argv[1:] == ["--dial"]:
         lines = dialled() + talked()
         print("\n".join(lines))
