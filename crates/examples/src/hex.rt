@@ -5,6 +5,7 @@ ghost use Rattle.std.specs.Options.{Cases as BySome};
 ghost use Rattle.examples.specs.Hex.{hex-value, octet-of};
 use std::alloc::AllocError;
 use std::alloc::Global;
+use std::fmt;
 
 // The value of a digit, `0` to `9` or `A` to `F`.
 fn value_of(digit: u8) -> Option<u8>
@@ -46,4 +47,21 @@ pub fn octets_of(heap: Global, text: &str) -> Result<Option<Vec<u8>>, AllocError
         octets.push(octet)?;
     }
     Ok(Some(octets))
+}
+
+// Shows the first so many octets, two digits for each, with blanks between them.
+pub fn show_octets<W: fmt::Write>(
+    octets: &[u8],
+    count: usize,
+    f: &mut fmt::Formatter<W>,
+) -> fmt::Result {
+    let mut first = true;
+    for octet in octets.iter().take(count) {
+        if !first {
+            write!(f, " ")?;
+        }
+        write!(f, "{octet:02X}")?;
+        first = false;
+    }
+    Ok(())
 }

@@ -1,4 +1,5 @@
 // What a call is answered, in one line.
+use examples::hex::show_octets;
 use refusal::Refusal;
 use std::fmt;
 
@@ -33,22 +34,6 @@ pub impl fmt::Display for Answer as AnswerDisplay {
             Answer::BadLine => write!(f, "bad line"),
         }
     }
-}
-
-fn show_octets<W: fmt::Write>(
-    octets: &[u8],
-    count: usize,
-    f: &mut fmt::Formatter<W>,
-) -> fmt::Result {
-    let mut first = true;
-    for octet in octets.iter().take(count) {
-        if !first {
-            write!(f, " ")?;
-        }
-        write!(f, "{octet:02X}")?;
-        first = false;
-    }
-    Ok(())
 }
 
 fn show_refusal<W: fmt::Write>(refusal: Refusal, f: &mut fmt::Formatter<W>) -> fmt::Result {

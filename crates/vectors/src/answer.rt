@@ -1,4 +1,5 @@
 // What a case is answered, in one line.
+use examples::hex::show_octets;
 use examples::wide::Mark;
 use kinds::cas::CasBits;
 use kinds::digit::Digit;
@@ -31,22 +32,6 @@ pub impl fmt::Display for Answer as AnswerDisplay {
             Answer::BadLine => write!(f, "bad line"),
         }
     }
-}
-
-fn show_octets<W: fmt::Write>(
-    octets: &[u8],
-    count: usize,
-    f: &mut fmt::Formatter<W>,
-) -> fmt::Result {
-    let mut first = true;
-    for octet in octets.iter().take(count) {
-        if !first {
-            write!(f, " ")?;
-        }
-        write!(f, "{octet:02X}")?;
-        first = false;
-    }
-    Ok(())
 }
 
 fn show_digit<W: fmt::Write>(payload: Payload<Digit>, f: &mut fmt::Formatter<W>) -> fmt::Result {
