@@ -4,7 +4,7 @@ use mathlib.Core.Bool.{false}
 use mathlib.Core.List.{List, [], _∷_}
 use Prim.Native.Nat.{ℕ, _+_, _-_, _*_, _/_, _%_, _<_, _≤_}
 use native.Mathlib.Omega.{arith}
-use native.Mathlib.Nat.{mod-lt, mod-mod, add-mod, zero-add}
+use native.Mathlib.Nat.{mod-lt, mod-mod, add-mod, zero-add, mul-pos}
 use Rattle.std.specs.Finite.{nth}
 use Rattle.std.specs.Options.{isSome, mapped}
 use Rattle.std.specs.declared.option.Option.{Option}
@@ -55,3 +55,8 @@ span-none (x ∷ es) e = let z : zero-one = cc in never z
 pub span-some : (es : List Entry) (x : Entry) → Some x ≡ nth es 0 → width x * x .interval ≡ span-of es
 span-some [] x e = let z : zero-one = cc in never z
 span-some (y ∷ es) x e = let is : x ≡ y = cc in ap (λ (z : Entry). width z * z .interval) is
+
+-- a profile spans some time
+pub span-positive : (es : List Entry) → isSome (refusal es) ≡ false → 0 < span-of es
+span-positive [] h = let z : zero-one = cc in never z
+span-positive (x ∷ es) h = let n = numbers-at (x ∷ es) h 0 x refl in mul-pos (n .wide) (n .slow)
