@@ -10,15 +10,15 @@ returns-in-empty c = sym (ap check_field (nil_from_length c.args.payload.now (om
 pub returns-in-len1 : goal.returns-in-len1
 returns-in-len1 c =
     let p = c.args.payload.now in
-    c.from.ensures ∙ sym (field_one p (omega (arith, ltb-true, ltb-false)) (omega (arith, c.type-inv.payload 0)))
+    c.from.ensures ∙ sym (field_one p (omega (arith, ltb-true, ltb-false)) (omega (arith, c.type_inv.payload 0)))
 
 pub returns-in-len2-up : goal.returns-in-len2-up
 returns-in-len2-up c =
     let p = c.args.payload.now in
     let n = length p - 2 in
     let m = length p - 1 in
-    c.ten-bits.ensures
+    c.ten_bits.ensures
     ∙ ap (λ (x : ℕ). x % 4 * 256 + get_or p m 0) c.from-in-len2-up.ensures
     ∙ sym
-    (field_two p n m (omega (arith, ltb-false)) (omega (arith, ltb-false)) (omega (arith, c.type-inv.payload n))
-    (omega (arith, c.type-inv.payload m)))
+    (field_two p n m (omega (arith, ltb-false)) (omega (arith, ltb-false)) (omega (arith, c.type_inv.payload n))
+    (omega (arith, c.type_inv.payload m)))

@@ -6,6 +6,6 @@ use Rattle.crc10.proofs.is_right.Goals as goal
 pub returns : goal.returns
 returns c =
     record {
-      answer = ap (λ (n : ℕ). eqb n 0) c.remainder-of.ensures.value ∙ right_whole c.args.payload.now;
+      answer = ap (λ (n : ℕ). eqb n 0) c.remainder_of.ensures.value ∙ right_whole c.args.payload.now;
       changes = changes_are_found;
     }

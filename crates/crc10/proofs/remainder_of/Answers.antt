@@ -10,11 +10,11 @@ loop-octet-preserved c =
     let xs = c.args.octets.now in
     let i = c.loop-octet.octet-index in
     let r = c.loop-octet.rest in (
-      ap (λ (s : ℕ). divide_on s (bits (drop (i + 1) xs))) c.divide-octet-rest.ensures
+      ap (λ (s : ℕ). divide_on s (bits (drop (i + 1) xs))) c.divide_octet-rest.ensures
           ∙ sym (divide_append r (octet_bits (get_or xs i 0)) (bits (drop (i + 1) xs)))
           ∙ sym (at_drop_more (λ (ys : List ℕ). divide_on r (bits ys)) xs i 0 c.loop-octet-test.true)
           ∙ c.loop-octet.invariant.0,
-      subst (λ (s : ℕ). s < 1024) (sym c.divide-octet-rest.ensures) (divide_lt r (octet_bits (get_or xs i 0)) c.loop-octet.invariant.1),
+      subst (λ (s : ℕ). s < 1024) (sym c.divide_octet-rest.ensures) (divide_lt r (octet_bits (get_or xs i 0)) c.loop-octet.invariant.1),
     )
 
 pub returns : goal.returns

@@ -7,32 +7,32 @@ use Rattle.dial.specs.Heard.{says}
 use Rattle.dial.proofs.Passing.{refused_says, never_refused, hears}
 use Rattle.dial.proofs.exchange.pass.Goals as goal
 
-pub returns-in-err-due : goal.returns-in-err-due
-returns-in-err-due c =
+pub returns-in_err-due : goal.returns-in_err-due
+returns-in_err-due c =
     let s = seen c.args.sender.now in
     let t = c.args.time in
     let six : length c.args.octets.now ≡ 6 = search rules in
-    let p = err_from_is_err_and c.from-residual.result c.from-residual.ensures.1 in
+    let p = err_from_is_err_and c.from_residual.result c.from_residual.ensures.1 in
     record {
-      hears = rw (p.1, p.2) (refused_says (due_of s t) _ _ c.in-err-due.ensures.value ∙ ap (λ n. says (due_of s t) (due digits s t n).0) six);
+      hears = rw (p.1, p.2) (refused_says (due_of s t) _ _ c.in_err-due.ensures.value ∙ ap (λ n. says (due_of s t) (due digits s t n).0) six);
       after = c.due.ensures.after ∙ ap (λ n. (due digits s t n).1) six;
     }
 
-pub returns-in-err-payload : goal.returns-in-err-payload
-returns-in-err-payload c =
+pub returns-in_err-payload : goal.returns-in_err-payload
+returns-in_err-payload c =
     let s = seen c.args.sender.now in
     let six : length c.args.octets.now ≡ 6 = search rules in
     never_refused s c.args.time c.in-Some.field-0 c.args.octets.now c.due.new.out six
-    (ap (λ o. Ok o) (sym c.in-Some.is) ∙ c.in-ok-due.ensures.value) c.due.ensures.octets c.in-err-payload.field-0.0 c.in-err-payload.ensures.value
+    (ap (λ o. Ok o) (sym c.in-Some.is) ∙ c.in_ok-due.ensures.value) c.due.ensures.octets c.in_err-payload.field-0.0 c.in_err-payload.ensures.value
 
-pub returns-in-ok-payload : goal.returns-in-ok-payload
-returns-in-ok-payload c =
+pub returns-in_ok-payload : goal.returns-in_ok-payload
+returns-in_ok-payload c =
     let s = seen c.args.sender.now in
     let t = c.args.time in
     let six : length c.args.octets.now ≡ 6 = search rules in
     record {
       hears = hears s t c.in-Some.field-0 c.args.octets.now c.due.new.out six
-          (ap (λ o. Ok o) (sym c.in-Some.is) ∙ c.in-ok-due.ensures.value) c.due.ensures.octets c.in-ok-payload.payload c.in-ok-payload.ensures.value
+          (ap (λ o. Ok o) (sym c.in-Some.is) ∙ c.in_ok-due.ensures.value) c.due.ensures.octets c.in_ok-payload.payload c.in_ok-payload.ensures.value
           ∙ ap (λ n. says (due_of s t) (due digits s t n).0) six;
       after = c.due.ensures.after ∙ ap (λ n. (due digits s t n).1) six;
     }

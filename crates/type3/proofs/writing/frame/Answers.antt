@@ -5,4 +5,4 @@ use Rattle.type3.proofs.writing.frame.Goals as goal
 pub returns : goal.returns
 returns g c =
     frame_is g.K.Kind.model g.met.K.Kind.lawful (contents c.args.payload) c.args.out.now c.args.check _ _ _ _ _
-    c.requires.room c.get.ensures c.get-stamp.ensures c.body-len-n.ensures c.write-body.ensures c.message_type.ensures
+    c.requires.room c.get.ensures c.get-stamp.ensures c.body_len-n.ensures c.write_body.ensures c.message_type.ensures

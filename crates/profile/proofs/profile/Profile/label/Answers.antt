@@ -7,6 +7,6 @@ pub returns : goal.returns
 returns c =
     let es = vec_items c.args.self.now.entries in
     record {
-      value = c.label-under.ensures;
-      labelled = subst (λ r. Labelled es c.args.place c.args.time r) (sym c.label-under.ensures) (labelled es c.args.self.now.sound c.args.place c.args.time);
+      value = c.label_under.ensures;
+      labelled = subst (λ r. Labelled es c.args.place c.args.time r) (sym c.label_under.ensures) (labelled es c.args.self.now.sound c.args.place c.args.time);
     }
