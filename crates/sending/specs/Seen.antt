@@ -3,9 +3,10 @@ use Rattle.std.specs.Prelude.{ℕ, List, ◌++◌, length, drop, Some, None, Ok,
 use Rattle.refusal.specs.declared.Refusal.{Refusal}
 use Rattle.sending.specs.declared.event.Packet.{Packet}
 use Rattle.sending.specs.declared.sender.Sender.{Sender}
+use Rattle.type3.specs.declared.kind.Kind.{Ghosts}
 use Rattle.sending.specs.Sending.{Stream, Due}
 
-abbrev pub seen : {K M : Type 0} → Sender K M → Stream M
+abbrev pub seen : {K M : Type 0} {g : Ghosts K M} → Sender K M g → Stream M
 seen s = record { clock = s.clock; latest = s.latest; copies = s.next.value; refresh = s.refresh; refreshed = s.refreshed }
 
 abbrev pub packet_seen : {M : Type 0} → Packet M → Due M
