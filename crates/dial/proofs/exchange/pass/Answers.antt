@@ -18,21 +18,21 @@ returns-in_err-due c =
       after = c.due.ensures.after ∙ ap (λ n. (due digits s t n).1) six;
     }
 
-pub returns-in_err-payload : goal.returns-in_err-payload
-returns-in_err-payload c =
+pub returns-in_err-payload-in-Some : goal.returns-in_err-payload-in-Some
+returns-in_err-payload-in-Some c =
     let s = seen c.args.sender.now in
     let six : length c.args.octets.now ≡ 6 = search rules in
     never_refused s c.args.time c.in-Some.field-0 c.args.octets.now c.due.new.out six
-    (ap (λ o. Ok o) (sym c.in-Some.is) ∙ c.in_ok-due.ensures.value) c.due.ensures.octets c.in_err-payload.field-0.0 c.in_err-payload.ensures.value
+    (ap (λ o. Ok o) (sym c.in-Some.is) ∙ c.in_ok-due.ensures.value) c.due.ensures.octets c.in_err-payload-in-Some.field-0.0 c.in_err-payload-in-Some.ensures.value
 
-pub returns-in_ok-payload : goal.returns-in_ok-payload
-returns-in_ok-payload c =
+pub returns-in_ok-payload-in-Some : goal.returns-in_ok-payload-in-Some
+returns-in_ok-payload-in-Some c =
     let s = seen c.args.sender.now in
     let t = c.args.time in
     let six : length c.args.octets.now ≡ 6 = search rules in
     record {
       hears = hears s t c.in-Some.field-0 c.args.octets.now c.due.new.out six
-          (ap (λ o. Ok o) (sym c.in-Some.is) ∙ c.in_ok-due.ensures.value) c.due.ensures.octets c.in_ok-payload.payload c.in_ok-payload.ensures.value
+          (ap (λ o. Ok o) (sym c.in-Some.is) ∙ c.in_ok-due.ensures.value) c.due.ensures.octets c.in_ok-payload-in-Some.payload c.in_ok-payload-in-Some.ensures.value
           ∙ ap (λ n. says (due_of s t) (due digits s t n).0) six;
       after = c.due.ensures.after ∙ ap (λ n. (due digits s t n).1) six;
     }
