@@ -24,8 +24,8 @@ use Rattle.network.specs.declared.side.Side.{Side}
 use Rattle.network.specs.declared.side.Side.TheVariants.{Near, Far}
 use Rattle.network.specs.Names.{other, messages, same_octets}
 use Rattle.network.specs.Runs.{Call, audio, event, due, arrive, Moment, Ends, both, end_at, with_end, done}
-use Rattle.network.specs.Packets.{Content, entry, message, Packet, Arrival, stream_of, had, made_at, packet_from, arrival}
-use Rattle.network.specs.Law.{Sound, sound, sounds, sound_if, kept, intact, spoiled, foreign, copied, carried, aged, test_of, latest_news, Law}
+use Rattle.network.specs.Packets.{Content, entry, message, Packet, Named, Arrival, stream_of, had, made_at, packet_from, arrival}
+use Rattle.network.specs.Law.{Sound, sound, sounds, sound_if, kept, intact, spoiled, foreign, copied, carried, aged_if, aged, test_of, latest_news, Law}
 use Rattle.network.proofs.Sameness.{none_some, some_is, itself}
 use Rattle.network.proofs.Frame.{Right, Forced, Keeps, told_rightly}
 use Rattle.network.proofs.Sends.{Sends, idle}
@@ -143,12 +143,23 @@ module _ {P Q : Type 0} (p : Meaning P) (q : Meaning Q) (es : List Entry) (lp : 
       abbrev now : Call P Q → Moment P Q
       now c = record { side = a; call = c; answer = (done p q (end_at w a) c).0 }
 
+      -- how old an arrival is does not hang on what is answered
+      as_old : (t u : ℕ) (o : List ℕ) (c : Option ℕ) (n : Option (Named P Q)) (z : Option (Packet P Q))
+          → aged_if es h (sound_if (arriving a t u o c n) z) ≡ aged_if es h (sound_if (arriving a t u o c None) z)
+      as_old t u o c n None = refl
+      as_old t u o c n (Some k) = by (intact k (arriving a t u o c None))
+        where
+          by : (b : Bool) → aged_if es h (cond b (Some (record { arrival = arriving a t u o c n; packet = k })) None)
+              ≡ aged_if es h (cond b (Some (record { arrival = arriving a t u o c None; packet = k })) None)
+          by true = refl
+          by false = refl
+
       -- the premises do not ask what was answered
       fine : (t u : ℕ) (o : List ℕ) (c : Option ℕ) → test_of (carried h) (arrival (now (arrive t u o c))) ≡ true → test_of (aged es h) (arrival (now (arrive t u o c))) ≡ true
           → (carried h (arriving a t u o c None) ≡ true) × (aged es h (arriving a t u o c None) ≡ true)
       fine t u o c e f =
           let r = (trunk.arrive p q (end_at w a) t u o).0 in
-          (sym (ap (test_of (carried h)) (arrives a t u o c r)) ∙ e, sym (ap (test_of (aged es h)) (arrives a t u o c r)) ∙ f)
+          (sym (ap (test_of (carried h)) (arrives a t u o c r)) ∙ e, sym (as_old t u o c (news_of r) (packet_from (other a) h c)) ∙ sym (ap (test_of (aged es h)) (arrives a t u o c r)) ∙ f)
 
       own : (c : Call P Q) → test_of (carried h) (arrival (now c)) ≡ true → test_of (aged es h) (arrival (now c)) ≡ true
           → HeldAt p q es (h ++ (now c ∷ [])) a (done p q (end_at w a) c).1
