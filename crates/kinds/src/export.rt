@@ -1,4 +1,4 @@
-// What a C program calls.
+// What a C program is told of a payload. The static library over this crate calls it.
 ghost use Rattle.std.specs.Prelude.{◌≡◌};
 ghost use Rattle.type3.specs.Octets.{read_either};
 ghost use Rattle.kinds.specs.Cas.{cas};
@@ -15,8 +15,7 @@ use type3::reading::read_either;
 
 // Reads one payload of digits or of CAS. Read, it is message type × 65,536 + octet 1 × 256 + octet 2 of the payload; refused,
 // the refusal's number, and where the kind does not read the body that number + 256 × the cause.
-#[unsafe(no_mangle)]
-pub extern "C" fn gublaisma_read_type3(payload: &[u8]) -> u32
+pub fn gublaisma_read_type3(payload: &[u8]) -> u32
     ensures value { result ≡ told payload.now }
     ensures apart { Apart (read_either digits cas payload.now) result }
 {
