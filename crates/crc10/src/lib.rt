@@ -1,4 +1,6 @@
 // The check of a payload: a CRC of ten bits, which stands in the payload's last ten bits.
+#![tactic(auto)]
+
 ghost use Rattle.std.specs.Prelude.{◌≡◌, ◌+◌, ◌*◌, ◌%◌, ◌<◌};
 ghost use Rattle.crc10.specs.Division.{remainder, divide_on, Divides};
 ghost use Rattle.crc10.specs.Check.{bits, octet_bits, check_field, crc_of, right, Published};

@@ -1,5 +1,5 @@
 -- What is due is what the far end reads. Assumes nothing.
-use Rattle.std.proofs.Common.{◌≡◌, ℕ, ◌+◌, ◌*◌, ◌%◌, ◌<◌, ◌≤◌, Bool, true, false, cond, ltb, leb, List, ◌++◌, length, drop, Some, None, Ok, Err, Option, Result, sym, refl, ap, ◌∙◌, subst, append-nil, arith}
+use Rattle.std.proofs.Common.{◌≡◌, ℕ, ◌%◌, ◌<◌, List, ◌++◌, length, Some, None, Ok, Err, Option, Result, sym, refl, ap, ◌∙◌, append-nil, arith}
 use Rattle.std.specs.Option.{option_map}
 use Rattle.std.proofs.lemmas.List.{drop_all}
 use Rattle.std.proofs.lemmas.Bool.Decides.{nat_tests}
@@ -15,7 +15,7 @@ use Rattle.sending.specs.Seen.{counted, put}
 use Rattle.kinds.specs.declared.digit.Digit.{Digit}
 use Rattle.kinds.specs.Digits.{digits}
 use Rattle.kinds.specs.DigitLaws.{digits_lawful}
-use Rattle.dial.specs.Heard.{heard, says}
+use Rattle.dial.specs.Heard.{says}
 
 never : {X : Type 0} → ◌≡◌ {A = ℕ} 0 1 → X
 never h = absurd (let k : ⊥ = omega arith in k)

@@ -1,5 +1,5 @@
 -- What the far end hears. Assumes nothing.
-use Rattle.std.specs.Prelude.{ℕ, List, Some, None, Ok, Err, Option, Result}
+use Rattle.std.specs.Prelude.{ℕ, List, Ok, Err, Option, Result}
 use Rattle.std.specs.Option.{option_map}
 use Rattle.refusal.specs.declared.Refusal.{Refusal}
 use Rattle.type3.specs.Octets.{Contents}

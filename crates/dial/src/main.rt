@@ -1,5 +1,7 @@
 // Dials a number and talks: each key, and the end of its tone, goes out as a type 3 payload and is read back, and the audio
 // of two talk spurts is labelled.
+#![tactic(auto)]
+
 use exchange::pass;
 use kinds::digit::{DTMF, Digit, TONE_OFF};
 use kinds::digits::Digits;

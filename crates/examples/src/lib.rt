@@ -1,4 +1,6 @@
 // Examples of type 3 payloads: a kind of message at every limit, tests, and payloads as text.
+#![tactic(auto)]
+
 pub mod bits;
 pub mod hex;
 #[cfg(test)]

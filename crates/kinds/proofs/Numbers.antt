@@ -1,7 +1,7 @@
 -- The numbers that a C program is told for a refusal. Assumes nothing.
-use Rattle.std.proofs.Common.{◌≡◌, ℕ, ◌+◌, ◌*◌, Bool, true, false, cond, ◌||◌, eqb, List, [], ◌∷◌, length, get_or, Ok, Err, Result, sym, refl, ap, ◌∙◌, arith}
+use Rattle.std.proofs.Common.{◌≡◌, ℕ, ◌+◌, Bool, true, false, cond, ◌||◌, eqb, List, [], ◌∷◌, length, get_or, Ok, Err, Result, sym, refl, ap, ◌∙◌, arith}
 use Rattle.std.proofs.lemmas.Bool.Decides.{nat_tests}
-use Rattle.refusal.specs.Questions.{asked, one_of}
+use Rattle.refusal.specs.Questions.{one_of}
 use Rattle.refusal.specs.declared.Refusal.{Refusal}
 use Rattle.refusal.specs.declared.Refusal.TheVariants.{Type3, Kind}
 use Rattle.refusal.specs.declared.Type3Fault.TheVariants.{KindLength}
@@ -9,7 +9,6 @@ use Rattle.refusal.specs.declared.KindFault.TheVariants.{Body}
 use Rattle.refusal.proofs.Asked.{refusal_so}
 use Rattle.type3.specs.Kinds.{Meaning, or_cause}
 use Rattle.type3.specs.Octets.{Contents, body_in, type_in, questions, says, read_named, as_first, as_second, read_either}
-use Rattle.type3.specs.declared.payload.Either.{Either}
 use Rattle.kinds.specs.declared.digit.Digit.{Digit}
 use Rattle.kinds.specs.declared.cas.CasBits.{CasBits}
 use Rattle.kinds.specs.Digits.{digits}

@@ -1,5 +1,5 @@
 -- Channel-associated signalling: four bits in one octet. Assumes nothing.
-use Rattle.std.specs.Prelude.{ℕ, ◌+◌, ◌*◌, ◌/◌, ◌%◌, Bool, cond, List, [], ◌∷◌, Some, Ok, Err, Result, ◌==◌, nat_lt, slice_index}
+use Rattle.std.specs.Prelude.{ℕ, ◌+◌, ◌*◌, ◌/◌, ◌%◌, Bool, cond, [], ◌∷◌, Some, Ok, Err, Result, ◌==◌, nat_lt, slice_index}
 use Rattle.refusal.specs.Questions.{asked}
 use Rattle.type3.specs.Kinds.{Meaning}
 use Rattle.kinds.specs.declared.cas.CasBits.{CasBits}

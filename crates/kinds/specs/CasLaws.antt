@@ -1,9 +1,8 @@
 -- The laws of channel-associated signalling. Assumes nothing.
-use Rattle.std.specs.Prelude.{◌≡◌, ℕ, ◌+◌, ◌*◌, ◌/◌, ◌%◌, ◌<◌, ◌≤◌, Bool, true, false, cond, List, [], ◌∷◌, length, Some, Ok, Err, nat_eq, slice_index, refl}
+use Rattle.std.specs.Prelude.{◌≡◌, ℕ, ◌<◌, ◌≤◌, Bool, true, false, List, [], ◌∷◌, length, Ok, nat_eq, slice_index, refl}
 use Rattle.std.proofs.Common.{ap, sym, ◌∙◌, arith}
 use Rattle.std.proofs.lemmas.Bool.Decides.{nat_tests}
 use Rattle.std.proofs.lemmas.Bool.{eqb-true, eq-eqb}
-use Rattle.refusal.specs.Questions.{one_of}
 use Rattle.type3.specs.Kinds.{Lawful}
 use Rattle.kinds.specs.Cas.{bit, octet, bits_in, read_octet, cas}
 use Rattle.kinds.specs.declared.cas.CasBits.{CasBits}

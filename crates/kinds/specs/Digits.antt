@@ -1,5 +1,5 @@
 -- Dialled digits: a level and a code of a digit type, in two octets. Assumes nothing.
-use Rattle.std.specs.Prelude.{◌≡◌, ℕ, suc, ◌+◌, ◌*◌, ◌/◌, ◌%◌, min, Bool, true, false, cond, ◌&&◌, List, [], ◌∷◌, ℤ, pos, negsuc, Some, None, Ok, Err, Option, Result, ◌==◌, nat_le, nat_lt, slice_index, refl}
+use Rattle.std.specs.Prelude.{◌≡◌, ℕ, suc, ◌+◌, ◌*◌, ◌/◌, ◌%◌, min, Bool, true, false, cond, ◌&&◌, [], ◌∷◌, ℤ, pos, negsuc, Some, None, Err, Option, Result, ◌==◌, nat_le, nat_lt, slice_index, refl}
 use Rattle.std.specs.Option.{ok_or}
 use Rattle.refusal.specs.Questions.{asked}
 use Rattle.refusal.specs.declared.Refusal.{Refusal}

@@ -1,50 +1,39 @@
 -- What an arrival is answered, and what is known of its end after it. Assumes nothing.
-use Rattle.std.proofs.Common.{◌≡◌, ℕ, ◌%◌, ◌<◌, ◌≤◌, Bool, true, false, cond, not, ◌&&◌, ◌||◌, eqb, leb, List, [], ◌∷◌, ◌++◌, length, is_some, Some, None, Ok, Err, Option, Result, sym, refl, ap, ◌∙◌, subst, ap₂, arith}
-use Rattle.std.proofs.lemmas.Bool.{and_parts, or_left, or_right, or_from, not-true, eqb-true, le-leb, ne_eqb, leb-true}
-use Rattle.std.specs.Option.{option_map, option_flatten}
-use Rattle.refusal.specs.Questions.{first_no, unless, is_time}
+use Rattle.std.proofs.Common.{◌≡◌, ℕ, ◌≤◌, true, false, cond, ◌&&◌, ◌||◌, eqb, leb, List, [], ◌∷◌, ◌++◌, length, is_some, Some, None, Err, Option, Result, sym, refl, ap, ◌∙◌, subst, arith}
+use Rattle.std.proofs.lemmas.Bool.{and_parts, or_left, or_right, not-true, eqb-true, le-leb, ne_eqb}
+use Rattle.refusal.specs.Questions.{unless, is_time}
 use Rattle.refusal.specs.declared.Refusal.{Refusal}
 use Rattle.refusal.specs.declared.Refusal.TheVariants.{Arrival, Type3}
 use Rattle.refusal.specs.declared.ArrivalFault.TheVariants.{TimeOutOfRange, RunsBack, UnknownUui}
 use Rattle.refusal.specs.declared.Type3Fault.TheVariants.{WrongCrc}
-use Rattle.refusal.proofs.Asked.{Yes, asked_yes}
+use Rattle.refusal.proofs.Asked.{asked_yes}
 use Rattle.crc10.specs.Changes.{changed, found}
 use Rattle.type3.specs.Kinds.{Meaning, Lawful}
-use Rattle.type3.specs.Octets.{Contents, written, type_in, read_named, as_first, as_second, read_either}
-use Rattle.type3.specs.declared.payload.Either.{Either}
+use Rattle.type3.specs.Octets.{type_in, read_named, as_first, as_second, read_either}
 use Rattle.type3.proofs.Spoiled.{spoiled_asked}
 use Rattle.profile.specs.declared.entry.Entry.{Entry}
 use Rattle.profile.specs.Questions.{refusal}
-use Rattle.profile.specs.Labels.{find, interval_of, span_of}
+use Rattle.profile.specs.Labels.{find}
 use Rattle.sending.specs.Sending as sending
 use Rattle.sending.specs.Sending.{Due, said_by, octets_of}
-use Rattle.placing.specs.declared.stream.Placed.{Placed}
-use Rattle.placing.specs.declared.stream.Moved.{Moved}
-use Rattle.placing.specs.declared.stream.Told.{Told}
-use Rattle.placing.specs.declared.stream.Told.TheVariants.{News, Repeat, Late}
-use Rattle.placing.specs.Lists.{greatest}
-use Rattle.placing.specs.Placing.{told, placed_after, place}
-use Rattle.placing.specs.Receiving.{Inbound, receive_by}
-use Rattle.placing.specs.Arrivals.{is_news}
-use Rattle.placing.proofs.Telling.{stamps_tell}
+use Rattle.placing.specs.Placing.{place}
 use Rattle.trunk.specs.declared.answer.Which.{Which}
 use Rattle.trunk.specs.declared.answer.Arrived.{Arrived}
-use Rattle.trunk.specs.End.{End, with_outs, clock_after, with_ins, audio_answer, arrive_audio, arrive_read, arrive_questions, arrive}
+use Rattle.trunk.specs.End.{End, arrive_audio, arrive_read, arrive_questions, arrive}
 use Rattle.network.specs.declared.side.Side.{Side}
-use Rattle.network.specs.Names.{other, same_side, same_kind, kind_of, Stream, audio, messages, same_stream, same_octets}
+use Rattle.network.specs.Names.{other, kind_of, audio, messages}
 use Rattle.network.specs.Runs.{Moment}
 use Rattle.network.specs.Packets as packets
 use Rattle.network.specs.Packets.{Content, entry, message, Packet, Named, stream_of, packet_from, arrivals}
-use Rattle.network.specs.Law.{Sound, sound, sounds, sound_if, original, kept, intact, spoiled, foreign, copied, carried, aged, span, later_than_all}
-use Rattle.network.proofs.Sameness.{none_some, some_is, itself, stream_itself, same_octets_are}
+use Rattle.network.specs.Law.{sound, original, kept, spoiled, foreign, copied, carried, later_than_all}
+use Rattle.network.proofs.Sameness.{none_some}
 use Rattle.network.proofs.Frame.{Right}
-use Rattle.network.proofs.Longer.{sounds_none, sounds_apart}
-use Rattle.network.proofs.Sends.{packet, Made}
-use Rattle.network.proofs.Audios.{AudioMade, low, finds, label_tells}
-use Rattle.network.proofs.Ins as ins
-use Rattle.network.proofs.Ins.{Come, come_before, come_now, made_for, On, on_stays, news_of, naming, arriving, arrive_moment, arrives}
-use Rattle.network.proofs.Lanes.{Of, inj, kind_is, into, with_in, clock_is, audio_is, lane_by_lane, on_lane, meaning, lawful, read_lane, received, arrive_lane, news_lane, placed_by, force_by}
-use Rattle.network.proofs.Heard.{uui_of, stamp, Lane, Heard, heard_stays, lane_still}
+use Rattle.network.proofs.Longer.{sounds_none}
+use Rattle.network.proofs.Sends.{Made}
+use Rattle.network.proofs.Audios.{AudioMade, low}
+use Rattle.network.proofs.Ins.{Come, news_of, arriving, arrive_moment}
+use Rattle.network.proofs.Lanes.{Of, inj, meaning, lawful}
+use Rattle.network.proofs.Heard.{Heard, heard_stays}
 
 module _ {P Q : Type 0} (p : Meaning P) (q : Meaning Q) (es : List Entry) where
   -- what is known of every packet that a side made

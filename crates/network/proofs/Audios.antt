@@ -1,5 +1,5 @@
 -- What is known of an audio packet, and that its UUI and length tell its entry and its time. Assumes nothing.
-use Rattle.std.proofs.Common.{◌≡◌, ℕ, ◌+◌, ◌*◌, ◌/◌, ◌%◌, ◌≤◌, Bool, true, false, List, [], ◌∷◌, length, is_some, Some, None, Ok, Err, Option, Result, sym, refl, ap, ◌∙◌, subst, arith}
+use Rattle.std.proofs.Common.{◌≡◌, ℕ, ◌+◌, ◌*◌, ◌%◌, ◌≤◌, Bool, false, List, [], ◌∷◌, length, is_some, Some, None, Ok, Err, Option, Result, sym, refl, ap, ◌∙◌, subst, arith}
 use Rattle.std.proofs.lemmas.Bool.{leb-true, eqb-true, le-leb, eq-eqb, and_from}
 use Rattle.std.specs.List.{slice_get}
 use Rattle.std.specs.Option.{option_map}
@@ -10,7 +10,7 @@ use Rattle.refusal.specs.declared.SendingFault.TheVariants.{TimeOutOfRange}
 use Rattle.refusal.proofs.Asked.{Yes, accepted}
 use Rattle.profile.specs.declared.entry.Entry.{Entry}
 use Rattle.profile.specs.Questions.{width, refusal}
-use Rattle.profile.specs.Labels.{has, find, label, interval_of, span_of}
+use Rattle.profile.specs.Labels.{find, label, interval_of, span_of}
 use Rattle.profile.specs.Guarantees.{At}
 use Rattle.profile.proofs.Sound.{numbers_at, one_interval, one_span}
 use Rattle.profile.proofs.Finding.{found}

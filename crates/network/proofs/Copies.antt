@@ -1,5 +1,5 @@
 -- A sound copy of a packet: what it is answered, and what is known of its end after it. Assumes nothing.
-use Rattle.std.proofs.Common.{◌≡◌, ℕ, ◌%◌, ◌<◌, ◌≤◌, Bool, true, false, cond, not, ◌&&◌, ◌||◌, eqb, List, [], ◌∷◌, ◌++◌, length, is_some, Some, None, Ok, Err, Option, Result, sym, refl, ap, ◌∙◌, subst, arith}
+use Rattle.std.proofs.Common.{◌≡◌, ℕ, ◌%◌, ◌<◌, ◌≤◌, Bool, true, false, cond, not, ◌||◌, eqb, List, [], ◌∷◌, ◌++◌, length, is_some, Some, None, Ok, Err, Option, Result, sym, refl, ap, ◌∙◌, subst, arith}
 use Rattle.std.proofs.lemmas.Bool.{and_parts, eqb-true}
 use Rattle.refusal.specs.declared.Refusal.{Refusal}
 use Rattle.type3.specs.Kinds.{Meaning, Lawful}
@@ -13,15 +13,15 @@ use Rattle.placing.specs.declared.stream.Told.{Told}
 use Rattle.placing.specs.declared.stream.Told.TheVariants.{News, Repeat, Late}
 use Rattle.placing.specs.declared.receiver.MessageNews.{MessageNews}
 use Rattle.placing.specs.Lists.{greatest}
-use Rattle.placing.specs.Placing.{told, placed_after, place}
-use Rattle.placing.specs.Receiving.{Inbound, receive_by}
+use Rattle.placing.specs.Placing.{told, placed_after}
+use Rattle.placing.specs.Receiving.{Inbound}
 use Rattle.placing.specs.Arrivals.{Tells, is_news}
 use Rattle.placing.proofs.Telling.{stamps_tell}
 use Rattle.trunk.specs.declared.answer.Which.{Which}
 use Rattle.trunk.specs.declared.answer.Arrived.{Arrived}
 use Rattle.trunk.specs.End.{End, clock_after, with_ins, audio_answer, arrive_audio, arrive_read, arrive}
 use Rattle.network.specs.declared.side.Side.{Side}
-use Rattle.network.specs.Names.{other, same_kind, Stream, audio, messages, same_stream, same_octets}
+use Rattle.network.specs.Names.{other, Stream, audio, messages, same_stream, same_octets}
 use Rattle.network.specs.Runs.{Moment}
 use Rattle.network.specs.Packets.{entry, message, Packet, Named, Arrival, stream_of, packet_from}
 use Rattle.network.specs.Law.{Sound, sound, sounds, sound_if, kept, intact, carried, aged, span}
@@ -30,7 +30,7 @@ use Rattle.network.proofs.Sends.{packet}
 use Rattle.network.proofs.Audios.{AudioMade, low, finds, label_tells}
 use Rattle.network.proofs.Ins as ins
 use Rattle.network.proofs.Ins.{Come, come_before, come_now, made_for, On, on_stays, news_of, naming, arriving, arrive_moment, arrives}
-use Rattle.network.proofs.Lanes.{Of, inj, saying, kind_is, into, with_in, clock_is, audio_is, lane_by_lane, into_same, on_lane, meaning, read_lane, received, arrive_lane, news_lane, placed_by, force_by}
+use Rattle.network.proofs.Lanes.{Of, inj, kind_is, into, with_in, clock_is, audio_is, lane_by_lane, into_same, on_lane, meaning, read_lane, received, arrive_lane, news_lane, placed_by, force_by}
 use Rattle.network.proofs.Heard.{uui_of, stamp, Lane, Heard, lane_still}
 use Rattle.network.proofs.Arrives.{Known, Fine, come, type3_is, audio_is_asked}
 

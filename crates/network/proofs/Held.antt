@@ -1,43 +1,31 @@
 -- What is kept from call to call: what is known of all that the two ends have sent and received. Assumes nothing.
-use Rattle.std.proofs.Common.{◌≡◌, ℕ, Bool, true, false, cond, ◌&&◌, ◌||◌, eqb, ◌⊎◌, List, [], ◌∷◌, ◌++◌, length, is_some, Some, None, Ok, Err, Option, Result, sym, refl, ap, ◌∙◌, subst, inl, inr, true≢false, append-nil}
-use Rattle.std.proofs.lemmas.Bool.{and_parts, eqb-true, cases_Bool}
+use Rattle.std.proofs.Common.{◌≡◌, ℕ, Bool, true, false, cond, ◌&&◌, List, [], ◌∷◌, ◌++◌, length, Some, None, Ok, Err, Option, Result, sym, refl, ap, ◌∙◌, subst, true≢false, append-nil}
 use Rattle.std.specs.Option.{option_map, option_flatten}
-use Rattle.refusal.specs.Questions.{first_no, unless}
 use Rattle.refusal.specs.declared.Refusal.{Refusal}
-use Rattle.type3.specs.Kinds.{Meaning, Lawful}
-use Rattle.type3.specs.Octets.{Contents, read_either}
+use Rattle.type3.specs.Kinds.{Meaning}
 use Rattle.type3.specs.declared.payload.Either.{Either}
 use Rattle.type3.specs.declared.payload.Either.TheVariants as either
 use Rattle.profile.specs.declared.entry.Entry.{Entry}
-use Rattle.profile.specs.Questions.{refusal}
-use Rattle.profile.specs.Labels.{find}
 use Rattle.sending.specs.Audio as sending-audio
 use Rattle.sending.specs.Sending as sending
-use Rattle.placing.specs.declared.stream.Placed.{Placed}
-use Rattle.placing.specs.Receiving.{Inbound}
 use Rattle.trunk.specs.declared.answer.Which.{Which}
 use Rattle.trunk.specs.declared.answer.Which.TheVariants.{First, Second}
-use Rattle.trunk.specs.declared.answer.Arrived.{Arrived}
 use Rattle.trunk.specs.End as trunk
 use Rattle.trunk.specs.End.{End, started, with_outs, with_ins, arrive_audio, arrive_read, arrive_questions}
 use Rattle.network.specs.declared.side.Side.{Side}
-use Rattle.network.specs.declared.side.Side.TheVariants.{Near, Far}
 use Rattle.network.specs.Names.{other, same_side, same_kind, kind_of, Stream, messages, same_stream}
 use Rattle.network.specs.Names as name
-use Rattle.network.specs.Runs.{Call, audio, event, due, arrive, Answer, Moment, Ends, end_at, with_end, done}
-use Rattle.network.specs.Packets.{Content, entry, message, Packet, Arrival, stream_of, accepted, events, made, made_at, packet_from, arrival_by, arrival}
-use Rattle.network.specs.Law.{Sound, sound, sounds, sound_if, original, intact, spoiled, foreign, copied, carried, aged, test_of}
+use Rattle.network.specs.Runs.{Call, audio, event, due, arrive, Answer, Moment, Ends, end_at}
+use Rattle.network.specs.Packets.{entry, Packet, Arrival, stream_of, accepted, events, made, made_at, packet_from, arrival_by, arrival}
+use Rattle.network.specs.Law.{Sound, sound, sounds, sound_if, original, intact}
 use Rattle.network.proofs.Sameness.{none_some, some_is, itself}
-use Rattle.network.proofs.Frame.{Right}
-use Rattle.network.proofs.Longer.{Whence, old, made_now, whence, accepted_at, of_kind, events_snoc, events_stay, sound_now, sounds_none, sounds_apart}
+use Rattle.network.proofs.Longer.{Whence, old, made_now, whence, of_kind, events_snoc, events_stay, sound_now, sounds_none, sounds_apart}
 use Rattle.network.proofs.Sends.{Sends, new_sends, idle}
 use Rattle.network.proofs.Outs.{brings_none, event_on, due_on, due_kind}
 use Rattle.network.proofs.Audios.{AudioMade, audio_made}
-use Rattle.network.proofs.Ins.{arriving, arrive_moment, arrives, news_of}
-use Rattle.network.proofs.Lanes.{Of, inj, kind_is, out, meaning, out_stays}
+use Rattle.network.proofs.Lanes.{Of, inj, kind_is, out, meaning}
 use Rattle.network.proofs.Heard.{Heard, heard_stays, new_heard}
-use Rattle.network.proofs.Arrives.{Known, Fine, some_sort, foreign_fine, spoiled_fine}
-use Rattle.network.proofs.Copies.{lane_fine, audio_fine}
+use Rattle.network.proofs.Arrives.{Known}
 
 -- ---- a call at one side leaves the other
 

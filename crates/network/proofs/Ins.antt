@@ -1,5 +1,5 @@
 -- What a list of calls tells of a stream that is received, and what one more sound arrival is there. Assumes nothing.
-use Rattle.std.proofs.Common.{◌≡◌, ℕ, ◌*◌, ◌<◌, ◌≤◌, Bool, true, false, cond, ◌&&◌, ltb, leb, List, [], ◌∷◌, ◌++◌, ◌-ℤ◌, nat_abs, is_some, Some, None, Ok, Err, Option, Result, sym, refl, ap, ◌∙◌, subst}
+use Rattle.std.proofs.Common.{◌≡◌, ℕ, ◌*◌, ◌≤◌, Bool, true, false, cond, ◌&&◌, ltb, leb, List, [], ◌∷◌, ◌++◌, ◌-ℤ◌, nat_abs, is_some, Some, None, Ok, Err, Option, Result, sym, refl, ap, ◌∙◌, subst}
 use Rattle.std.proofs.lemmas.Bool.{leb-true, ltb-true, and_parts}
 use Rattle.std.specs.Option.{option_map, option_flatten}
 use Rattle.refusal.specs.declared.Refusal.{Refusal}
@@ -10,7 +10,6 @@ use Rattle.placing.specs.declared.stream.Told.{Told}
 use Rattle.placing.specs.declared.stream.Told.TheVariants.{News, Repeat, Late}
 use Rattle.placing.specs.Lists.{all, those, greatest, add}
 use Rattle.placing.specs.Placing.{told, placed_after}
-use Rattle.placing.specs.Arrivals as points
 use Rattle.placing.specs.Arrivals.{Point, Tells, is_news}
 use Rattle.placing.proofs.Hearing.{Hears, Passed, Near, Next, next}
 use Rattle.trunk.specs.declared.answer.Arrived.{Arrived}

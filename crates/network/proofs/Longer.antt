@@ -10,7 +10,7 @@ use Rattle.trunk.specs.declared.answer.Which.{Which}
 use Rattle.network.specs.declared.side.Side.{Side}
 use Rattle.network.specs.Names.{same_side, same_kind, kind_of, Stream, same_stream}
 use Rattle.network.specs.Runs.{Moment}
-use Rattle.network.specs.Packets.{Packet, Arrival, stream_of, accepted, events, made_at, packet_from, arrival, arrivals}
+use Rattle.network.specs.Packets.{Packet, stream_of, accepted, events, made_at, packet_from, arrival, arrivals}
 use Rattle.network.specs.Law.{Sound, sound, sounds}
 use Rattle.network.proofs.Sameness.{none_some}
 

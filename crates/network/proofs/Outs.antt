@@ -11,15 +11,14 @@ use Rattle.sending.specs.Sending.{Stream, Due, due_of, octets_of, due_questions,
 use Rattle.sending.specs.Runs as calls
 use Rattle.sending.specs.Runs.{Did, made, neither, did_event, did_due, does, step}
 use Rattle.sending.proofs.Kept.{due_is}
-use Rattle.placing.specs.Lists.{greatest}
 use Rattle.trunk.specs.declared.answer.Which.{Which}
 use Rattle.network.specs.declared.side.Side.{Side}
 use Rattle.network.specs.Names.{same_side, same_kind, kind_of, messages}
-use Rattle.network.specs.Runs.{Call, event, due, Answer, Moment}
+use Rattle.network.specs.Runs.{event, due, Moment}
 use Rattle.network.specs.Packets as packets
 use Rattle.network.specs.Packets.{message, Packet, stream_of, accepted, events, of_event, made_at}
 use Rattle.network.proofs.Sameness.{none_some, some_is, itself, kind_itself}
-use Rattle.network.proofs.Longer.{accepted_at, of_kind, events_snoc, events_stay}
+use Rattle.network.proofs.Longer.{of_kind, events_snoc, events_stay}
 use Rattle.network.proofs.Sends.{carry, packet, brought, gave, Sends, on_stream, read_off}
 
 either_none : {X : Type 0} (b : Bool) → ◌≡◌ {A = Option X} (cond b None None) None

@@ -1,6 +1,6 @@
 -- Both ends tell rightly: every call keeps what is known, and is answered rightly. Assumes nothing.
-use Rattle.std.proofs.Common.{◌≡◌, ℕ, Bool, true, false, cond, not, ◌||◌, eqb, ◌⊎◌, List, [], ◌∷◌, ◌++◌, length, is_some, Some, None, Ok, Err, Option, Result, sym, refl, ap, ◌∙◌, subst, inl, inr}
-use Rattle.std.proofs.lemmas.Bool.{and_parts, eqb-true, cases_Bool}
+use Rattle.std.proofs.Common.{◌≡◌, ℕ, Bool, true, false, cond, not, ◌||◌, eqb, List, [], ◌∷◌, ◌++◌, length, is_some, Some, None, Ok, Err, Option, Result, sym, refl, ap, ◌∙◌, subst}
+use Rattle.std.proofs.lemmas.Bool.{and_parts, eqb-true}
 use Rattle.std.specs.Option.{option_map}
 use Rattle.refusal.specs.Questions.{first_no, unless}
 use Rattle.refusal.specs.declared.Refusal.{Refusal}
@@ -17,7 +17,6 @@ use Rattle.placing.specs.Lists.{greatest}
 use Rattle.placing.proofs.Hearing.{Hears}
 use Rattle.trunk.specs.declared.answer.Which.{Which}
 use Rattle.trunk.specs.declared.answer.Which.TheVariants.{First, Second}
-use Rattle.trunk.specs.declared.answer.Arrived.{Arrived}
 use Rattle.trunk.specs.End as trunk
 use Rattle.trunk.specs.End.{End, with_ins, force, arrive_audio, arrive_read, arrive_questions}
 use Rattle.network.specs.declared.side.Side.{Side}
@@ -25,17 +24,17 @@ use Rattle.network.specs.declared.side.Side.TheVariants.{Near, Far}
 use Rattle.network.specs.Names.{other, messages, same_octets}
 use Rattle.network.specs.Runs.{Call, audio, event, due, arrive, Moment, Ends, both, end_at, with_end, done}
 use Rattle.network.specs.Packets.{Content, entry, message, Packet, Named, Arrival, stream_of, had, made_at, packet_from, arrival}
-use Rattle.network.specs.Law.{Sound, sound, sounds, sound_if, kept, intact, spoiled, foreign, copied, carried, aged_if, aged, test_of, latest_news, Law}
+use Rattle.network.specs.Law.{Sound, sounds, sound_if, kept, intact, spoiled, foreign, copied, carried, aged_if, aged, test_of, latest_news, Law}
 use Rattle.network.proofs.Sameness.{none_some, some_is, itself}
 use Rattle.network.proofs.Frame.{Right, Forced, Keeps, told_rightly}
 use Rattle.network.proofs.Sends.{Sends, idle}
 use Rattle.network.proofs.Outs.{brings_none}
 use Rattle.network.proofs.Ins.{made_for, is_told, point, arriving, arrive_moment, arrives, news_of}
-use Rattle.network.proofs.Lanes.{Of, inj, kind_is, into, out, meaning, out_stays}
-use Rattle.network.proofs.Heard.{Heard, stamp}
+use Rattle.network.proofs.Lanes.{inj, kind_is, into, out, meaning, out_stays}
+use Rattle.network.proofs.Heard.{stamp}
 use Rattle.network.proofs.Arrives.{Known, Fine, some_sort, foreign_fine, spoiled_fine}
 use Rattle.network.proofs.Copies.{lane_fine, audio_fine}
-use Rattle.network.proofs.Held.{Sent, HeldAt, Held, known_of, new_held, more_audio, held_away, held_audio, held_event, held_due}
+use Rattle.network.proofs.Held.{HeldAt, Held, known_of, new_held, more_audio, held_away, held_audio, held_event, held_due}
 
 -- ---- an arrival changes only what is received
 

@@ -1,5 +1,5 @@
 -- What a list of calls tells of a sender: its events, and the packets that it made. Assumes nothing.
-use Rattle.std.proofs.Common.{◌≡◌, ℕ, ◌+◌, ◌*◌, ◌/◌, ◌%◌, ◌<◌, ◌≤◌, Bool, true, false, cond, eqb, ltb, ◌⊎◌, List, [], ◌∷◌, ◌++◌, length, Some, None, Option, sym, refl, ap, ◌∙◌, subst, inl, inr, append-nil, arith}
+use Rattle.std.proofs.Common.{◌≡◌, ℕ, ◌+◌, ◌*◌, ◌/◌, ◌%◌, ◌<◌, ◌≤◌, true, cond, ◌⊎◌, List, [], ◌∷◌, ◌++◌, length, Some, None, Option, sym, refl, ap, ◌∙◌, inl, inr, append-nil, arith}
 use Rattle.std.proofs.lemmas.Bool.{and_parts, cases_lt, eq-eqb, ne_eqb}
 use Rattle.std.specs.Option.{option_map}
 use Rattle.type3.specs.Kinds.{Meaning}
@@ -17,7 +17,7 @@ use Rattle.trunk.specs.declared.answer.Which.{Which}
 use Rattle.network.specs.declared.side.Side.{Side}
 use Rattle.network.specs.Names.{messages}
 use Rattle.network.specs.Runs.{Moment}
-use Rattle.network.specs.Packets.{Content, message, Packet, stream_of, events, had, of_event, made_at, packet_from}
+use Rattle.network.specs.Packets.{message, Packet, stream_of, events, had, of_event, made_at, packet_from}
 use Rattle.network.proofs.Sameness.{none_some, some_is}
 use Rattle.network.proofs.Had.{had_of, had_latest, had_before}
 use Rattle.network.proofs.Longer.{Whence, old, made_now, whence}

@@ -1,5 +1,5 @@
 -- Every list of arrivals on a new stream is placed rightly. Assumes nothing.
-use Rattle.std.proofs.Common.{◌≡◌, ℕ, ◌+◌, ◌*◌, Bool, true, ltb, leb, List, [], ◌∷◌, ◌++◌, ◌-ℤ◌, nat_abs, Some, None, Ok, Option, Result, sym, refl, ap, ◌∙◌, subst}
+use Rattle.std.proofs.Common.{◌≡◌, ℕ, ◌*◌, Bool, true, ltb, leb, List, [], ◌∷◌, ◌++◌, ◌-ℤ◌, nat_abs, Some, None, Ok, Option, Result, sym, refl, ap, ◌∙◌, subst}
 use Rattle.std.proofs.lemmas.Bool.{ltb-true, leb-true, and_parts}
 use Rattle.std.specs.Option.{option_map}
 use Rattle.refusal.specs.Questions.{is_time}
@@ -10,7 +10,7 @@ use Rattle.placing.specs.declared.stream.Told.{Told}
 use Rattle.placing.specs.declared.stream.Told.TheVariants.{News}
 use Rattle.placing.specs.Lists.{all, greatest, everywhere, Everywhere}
 use Rattle.placing.specs.Placing.{told, placed_after}
-use Rattle.placing.specs.Arrivals.{Point, age, Tells, Moment, history, near_age, aged, in_order, beside, expected, start_of, is_news, points, Since, PlacedRightly, PlacesRightly}
+use Rattle.placing.specs.Arrivals.{Point, age, Tells, Moment, history, near_age, aged, in_order, beside, expected, start_of, is_news, points, Since, PlacesRightly}
 use Rattle.placing.proofs.Leader.{greatest_passes}
 use Rattle.placing.proofs.Moments.{points_snoc, greatest_point}
 use Rattle.placing.proofs.Hearing as hearing

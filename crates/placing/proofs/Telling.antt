@@ -1,5 +1,5 @@
 -- Labels that tell the times that packets were made for. Assumes nothing.
-use Rattle.std.proofs.Common.{◌≡◌, ℕ, ◌+◌, ◌-◌, ◌*◌, ◌/◌, ◌%◌, ◌<◌, ◌≤◌, ℤ, pos, ◌+ℤ◌, ◌-ℤ◌, nat_abs, ap, mul_assoc, add-mul, div-add-mod', arith}
+use Rattle.std.proofs.Common.{◌≡◌, ℕ, ◌+◌, ◌-◌, ◌*◌, ◌/◌, ◌%◌, pos, ◌-ℤ◌, ap, mul_assoc, add-mul, div-add-mod', arith}
 use Rattle.std.proofs.lemmas.Int.{ints}
 use Rattle.placing.specs.Nearest.{Agrees, labels_apart}
 use Rattle.placing.specs.Arrivals.{Point, Tells, StampsTell, LabelsTell, PlacedWhereMade}

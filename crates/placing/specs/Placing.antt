@@ -1,5 +1,5 @@
 -- Where an arrival stands on its stream, beside the latest news. Assumes nothing.
-use Rattle.std.specs.Prelude.{ℕ, zero, suc, ◌+◌, ◌-◌, cond, List, [], ◌∷◌, ℤ, pos, negsuc, Some, None, Ok, Err, Option, Result}
+use Rattle.std.specs.Prelude.{ℕ, zero, suc, ◌+◌, ◌-◌, [], ◌∷◌, ℤ, pos, negsuc, Some, None, Ok, Err, Option, Result}
 use Rattle.refusal.specs.Questions.{asked, is_time}
 use Rattle.refusal.specs.declared.Refusal.{Refusal}
 use Rattle.refusal.specs.declared.Refusal.TheVariants.{Placing}

@@ -1,12 +1,12 @@
 -- Labels lie in their entry's range, and count time. Assumes nothing.
-use Rattle.std.proofs.Common.{◌≡◌, ℕ, ◌+◌, ◌-◌, ◌*◌, ◌/◌, ◌%◌, ◌<◌, ◌≤◌, false, List, [], ◌∷◌, is_some, Some, None, Option, sym, refl, ap, ◌∙◌, subst, mod-lt, mul-pos, zero-add, arith}
+use Rattle.std.proofs.Common.{◌≡◌, ℕ, ◌+◌, ◌*◌, ◌/◌, ◌%◌, ◌<◌, ◌≤◌, false, List, [], ◌∷◌, is_some, Some, None, Option, sym, refl, ap, ◌∙◌, subst, mod-lt, mul-pos, zero-add, arith}
 use native.Mathlib.Nat.{mod-mod, add-mod}
 use Rattle.std.specs.List.{slice_get}
 use Rattle.std.specs.Option.{option_map}
 use Rattle.profile.specs.declared.entry.Entry.{Entry}
 use Rattle.profile.specs.Questions.{width, refusal}
 use Rattle.profile.specs.Labels.{label, label_at, interval_of, span_of}
-use Rattle.profile.specs.Guarantees.{At, Labelled}
+use Rattle.profile.specs.Guarantees.{Labelled}
 use Rattle.profile.proofs.Sound.{ZeroOne, never, Numbers, numbers_at, one_width, one_interval}
 
 label_inside : (e : Entry) (t : ℕ) → Numbers e → (e.first ≤ label e t) × (label e t ≤ e.last)

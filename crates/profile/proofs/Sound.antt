@@ -1,19 +1,16 @@
 -- What follows for entries that have passed the questions. Assumes nothing.
-use Rattle.std.proofs.Common.{◌≡◌, ℕ, zero, suc, ◌+◌, ◌-◌, ◌*◌, ◌/◌, ◌%◌, ◌<◌, ◌≤◌, Bool, true, false, cond, not, ◌&&◌, eqb, leb, List, [], ◌∷◌, ◌++◌, length, take, is_some, Some, None, Option, sym, refl, ap, ◌∙◌, subst, ap₂, append_assoc, append-nil, mod-lt, div-add-mod', zero-add, arith}
-use native.Mathlib.Nat.{mod-mod, add-mod}
-use lib.Arith.{digits_div}
+use Rattle.std.proofs.Common.{◌≡◌, ℕ, zero, suc, ◌+◌, ◌*◌, ◌%◌, ◌≤◌, Bool, true, false, cond, List, [], ◌∷◌, ◌++◌, length, take, is_some, Some, None, Option, sym, refl, ap, ◌∙◌, subst, ap₂, append_assoc, append-nil, arith}
 use Rattle.std.proofs.lemmas.Bool.Decides.{nat_tests}
-use Rattle.std.specs.List.{slice_get}
-use Rattle.std.specs.Option.{option_map, option_or}
+use Rattle.std.specs.Option.{option_or}
 use Rattle.refusal.specs.Questions.{first_no, from_to}
 use Rattle.refusal.specs.declared.Refusal.{Refusal}
 use Rattle.refusal.specs.declared.Refusal.TheVariants.{Profile}
 use Rattle.refusal.specs.declared.ProfileFault.TheVariants.{EntryCount}
 use Rattle.refusal.proofs.Asked.{accepted}
 use Rattle.profile.specs.declared.entry.Entry.{Entry}
-use Rattle.profile.specs.Questions.{width, in_range, good_length, aligned, good_times, like_first, alike, differs, questions, refusal_from, refusal}
-use Rattle.profile.specs.Labels.{has, find_from, find, label, label_at, interval_of, span_of}
-use Rattle.profile.specs.Guarantees.{At, Guarantees, Found, Labelled}
+use Rattle.profile.specs.Questions.{width, in_range, good_length, aligned, good_times, like_first, differs, questions, refusal_from, refusal}
+use Rattle.profile.specs.Labels.{interval_of, span_of}
+use Rattle.profile.specs.Guarantees.{At}
 
 abbrev pub ZeroOne : Type 0
 ZeroOne = ◌≡◌ {A = ℕ} 0 1

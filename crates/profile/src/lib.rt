@@ -1,4 +1,6 @@
 // Profiles: which audio packets a trunk carries, and how they are labelled.
+#![tactic(auto)]
+
 pub mod entry;
 pub mod examples;
 pub mod labels;

@@ -1,4 +1,6 @@
 // Why a call is refused: the layer that asked, and the question that was answered no.
+#![tactic(auto)]
+
 ghost use Rattle.std.specs.Prelude.{◌≡◌};
 ghost use Rattle.refusal.specs.Numbers.{number_of, layer_of, place_of, cause_of};
 

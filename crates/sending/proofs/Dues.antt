@@ -1,10 +1,10 @@
 -- What a due call that sends a packet does. Assumes nothing.
-use Rattle.std.proofs.Common.{◌≡◌, ℕ, ◌+◌, Bool, true, leb, List, [], ◌∷◌, ◌++◌, length, drop, Some, None, Ok, Option, Result, sym, refl, ap, ◌∙◌, arith}
+use Rattle.std.proofs.Common.{◌≡◌, ℕ, ◌+◌, true, leb, List, ◌++◌, length, drop, Some, None, Ok, Result, sym, ap, ◌∙◌, arith}
 use Rattle.refusal.specs.Questions.{first_no, unless}
 use Rattle.refusal.specs.declared.Refusal.{Refusal}
 use Rattle.refusal.proofs.Asked.{accepted}
 use Rattle.type3.specs.Kinds.{Meaning, Lawful}
-use Rattle.type3.specs.Octets.{Contents, written, write}
+use Rattle.type3.specs.Octets.{Contents, write}
 use Rattle.type3.proofs.Writes.{room_yes}
 use Rattle.type3.proofs.RoundTrip.{length_written}
 use Rattle.sending.specs.Sending.{Stream, Due, due_of, said_by, octets_of, after_packet, sent, due_questions, due}

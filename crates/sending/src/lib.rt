@@ -1,4 +1,6 @@
 // Sending: the events of a message stream with their copies and refreshes, each at its moment, and labelled audio.
+#![tactic(auto)]
+
 pub mod audio;
 pub mod calls;
 pub mod event;

@@ -1,5 +1,7 @@
 // Asks the sending streams of one trunk, one call to a line of the input: whether an event is accepted, which octets are due, which
 // label audio has, or the refusal.
+#![tactic(auto)]
+
 use call::answer_to;
 use std::io::{BufRead, BufReader};
 use streams::Streams;

@@ -23,7 +23,6 @@ use Rattle.placing.specs.Placing.{place}
 use Rattle.placing.specs.Receiving.{Inbound, new_receiver, receive}
 use Rattle.trunk.specs.declared.answer.Which.{Which}
 use Rattle.trunk.specs.declared.answer.Which.TheVariants as which
-use Rattle.trunk.specs.declared.answer.AudioNews.{AudioNews}
 use Rattle.trunk.specs.declared.answer.Arrived.{Arrived}
 use Rattle.trunk.specs.declared.answer.Arrived.TheVariants as on
 

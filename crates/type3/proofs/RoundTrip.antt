@@ -1,13 +1,12 @@
 -- What is written is read again, and nothing else is read. Assumes nothing.
-use Rattle.std.proofs.Common.{◌≡◌, ℕ, ◌+◌, ◌-◌, ◌*◌, ◌/◌, ◌%◌, ◌<◌, ◌≤◌, Bool, true, false, cond, ◌||◌, eqb, leb, List, [], ◌∷◌, ◌++◌, length, get_or, take, Ok, Err, Result, sym, refl, ap, ◌∙◌, ap₂, arith}
+use Rattle.std.proofs.Common.{◌≡◌, ℕ, ◌+◌, ◌-◌, ◌*◌, ◌/◌, ◌%◌, ◌<◌, ◌≤◌, Bool, true, eqb, List, [], ◌∷◌, length, get_or, take, Ok, Err, Result, sym, refl, ap, ◌∙◌, ap₂, arith}
 use Rattle.std.proofs.lemmas.Bool.{eqb-true, eq-eqb}
 use Rattle.std.proofs.lemmas.Bool.Decides.{nat_tests}
-use Rattle.refusal.specs.Questions.{asked, from_to}
-use Rattle.refusal.specs.declared.Refusal.{Refusal}
+use Rattle.refusal.specs.Questions.{from_to}
 use Rattle.refusal.specs.declared.Refusal.TheVariants.{Type3}
 use Rattle.refusal.specs.declared.Type3Fault.TheVariants.{KindLength}
 use Rattle.refusal.proofs.Asked.{Yes, asked_yes, accepted}
-use Rattle.crc10.specs.Check.{octet_bits, checked, check_field, crc, crc_of, right}
+use Rattle.crc10.specs.Check.{octet_bits, check_field, crc, crc_of, right}
 use Rattle.crc10.proofs.Ends.{field_end, checked_end, high_six, crc_low}
 use Rattle.type3.specs.Kinds.{Meaning, Lawful, or_cause}
 use Rattle.type3.specs.Octets.{Contents, framed, written, redundancy_in, stamp_in, body_in, type_in, questions, says, read_named, read}

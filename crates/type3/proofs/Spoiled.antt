@@ -1,5 +1,5 @@
 -- A written payload that was changed on the way is refused for its check. Assumes nothing.
-use Rattle.std.proofs.Common.{◌≡◌, ℕ, ◌+◌, ◌≤◌, Bool, true, false, cond, List, [], ◌∷◌, length, Ok, Err, Result, sym, ap, ◌∙◌, arith}
+use Rattle.std.proofs.Common.{◌≡◌, ℕ, ◌+◌, Bool, true, false, cond, List, length, Ok, Err, Result, ap, ◌∙◌, arith}
 use Rattle.std.proofs.lemmas.Bool.Decides.{nat_tests}
 use Rattle.refusal.specs.Questions.{asked, from_to}
 use Rattle.refusal.specs.declared.Refusal.{Refusal}
@@ -9,7 +9,7 @@ use Rattle.crc10.specs.Check.{right}
 use Rattle.crc10.specs.Changes.{changed, found}
 use Rattle.crc10.proofs.Detect.{changes_are_found}
 use Rattle.type3.specs.Kinds.{Meaning, Lawful}
-use Rattle.type3.specs.Octets.{Contents, written, type_in, questions, read_named, read}
+use Rattle.type3.specs.Octets.{Contents, written, questions, read_named, read}
 use Rattle.type3.specs.Contents.{contents, contents_read}
 use Rattle.type3.specs.Changed.{ChangedIsRefused}
 use Rattle.type3.specs.declared.payload.Payload.{Payload}

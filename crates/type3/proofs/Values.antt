@@ -1,17 +1,16 @@
 -- Payloads as values of the program: two that say the same are one, and what is read is exactly what was written. Assumes nothing.
-use Rattle.std.proofs.Common.{◌≡◌, ℕ, ◌<◌, Bool, true, false, cond, ◌||◌, eqb, ltb, List, [], ◌∷◌, get_or, Ok, Err, Result, sym, refl, ap, ◌∙◌, arith}
+use Rattle.std.proofs.Common.{◌≡◌, ℕ, ◌<◌, Bool, true, false, cond, ◌||◌, eqb, ltb, List, get_or, Ok, Err, Result, sym, refl, ap, ◌∙◌, arith}
 use mathlib.Core.HLevel.{is_prop→PathP}
 use mathlib.Core.Bool.{false≢true}
 use denote.Struct.Props.{props}
 use Rattle.std.proofs.lemmas.Bool.{eqb-true, eq-eqb, ne_eqb, ltb-true}
-use Rattle.refusal.specs.Questions.{asked}
 use Rattle.refusal.specs.declared.Refusal.{Refusal}
 use Rattle.refusal.proofs.Asked.{asked_yes, accepted}
 use Rattle.crc10.specs.Check.{right}
 use Rattle.type3.specs.Kinds.{Meaning, Lawful}
 use Rattle.type3.specs.Octets.{Contents, written, type_in, questions, read_named, read, as_first, as_second, read_either}
 use Rattle.type3.specs.Contents.{contents, contents_read, contents_of_either}
-use Rattle.type3.specs.Exactly.{Holds, Exactly, ExactlyEither, NoTwoAlike}
+use Rattle.type3.specs.Exactly.{Exactly, ExactlyEither, NoTwoAlike}
 use Rattle.type3.specs.declared.bounded.Redundancy.{Redundancy}
 use Rattle.type3.specs.declared.bounded.Stamp.{Stamp}
 use Rattle.type3.specs.declared.payload.Payload.{Payload}

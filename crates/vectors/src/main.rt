@@ -1,5 +1,7 @@
 // Answers cases of type 3 payloads, one to a line of the input: the octets that are written, what they say when they are read, or
 // the refusal.
+#![tactic(auto)]
+
 use case::answer_to;
 use std::io::{BufRead, BufReader};
 

@@ -1,4 +1,4 @@
-use Rattle.std.proofs.Common.{◌≡◌, ℕ, Err, sym, ap, ◌∙◌, subst}
+use Rattle.std.proofs.Common.{Err, sym, ap, ◌∙◌, subst}
 use Rattle.kinds.specs.Export.{told_by, Apart}
 use Rattle.kinds.proofs.Numbers.{refused_told}
 use Rattle.kinds.proofs.export.gublaisma_read_type3.Goals as goal

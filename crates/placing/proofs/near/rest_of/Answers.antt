@@ -1,4 +1,4 @@
-use Rattle.std.proofs.Common.{◌≡◌, ℕ, ◌+◌, ◌-◌, ◌*◌, ◌%◌, ◌<◌, ◌∙◌, subst, mod-lt, arith}
+use Rattle.std.proofs.Common.{◌≡◌, ◌+◌, ◌-◌, ◌*◌, ◌%◌, ◌<◌, ◌∙◌, mod-lt, arith}
 use Rattle.std.proofs.lemmas.Bool.{ltb-true}
 use Rattle.placing.proofs.Nearby.{rest_is}
 use Rattle.placing.proofs.near.rest_of.Goals as goal

@@ -1,4 +1,4 @@
-use Rattle.std.proofs.Common.{◌≡◌, ap, ◌∙◌, rules}
+use Rattle.std.proofs.Common.{ap, ◌∙◌, rules}
 use Rattle.sending.specs.Seen.{seen, counted}
 use Rattle.sending.specs.Sending.{due}
 use Rattle.timing.proofs.messages.due_within.Goals as goal

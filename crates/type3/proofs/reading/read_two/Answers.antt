@@ -1,4 +1,4 @@
-use Rattle.std.proofs.Common.{◌≡◌, cond, ◌||◌, eqb, sym, ap, ◌∙◌}
+use Rattle.std.proofs.Common.{cond, ◌||◌, eqb, sym, ap, ◌∙◌}
 use Rattle.std.proofs.lemmas.Result.{err_from_is_err_and}
 use Rattle.std.proofs.lemmas.Bool.{ne_eqb}
 use Rattle.type3.specs.Octets.{type_in, read_named, as_first, as_second}

@@ -1,4 +1,4 @@
-use Rattle.std.proofs.Common.{◌≡◌, ltb, vec_items, ap, ◌∙◌}
+use Rattle.std.proofs.Common.{ltb, vec_items, ap, ◌∙◌}
 use Rattle.std.proofs.lemmas.Bool.{lt-ltb}
 use Rattle.profile.proofs.Labelling.{span_positive}
 use Rattle.placing.proofs.span.Span.of_profile.Goals as goal

@@ -1,4 +1,4 @@
-use Rattle.std.proofs.Common.{◌≡◌, ℕ, ◌*◌, vec_items, sym, ◌∙◌, ap₂}
+use Rattle.std.proofs.Common.{ℕ, ◌*◌, vec_items, sym, ◌∙◌, ap₂}
 use Rattle.profile.proofs.Sound.{numbers_at}
 use Rattle.profile.proofs.Finding.{guarantees}
 use Rattle.profile.proofs.Labelling.{span_none, span_some}

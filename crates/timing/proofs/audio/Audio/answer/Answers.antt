@@ -1,4 +1,4 @@
-use Rattle.std.proofs.Common.{◌≡◌, vec_items, ap, ◌∙◌, rules}
+use Rattle.std.proofs.Common.{vec_items, ap, ◌∙◌, rules}
 use Rattle.sending.specs.Audio.{audio}
 use Rattle.timing.specs.Answers.{to_audio}
 use Rattle.timing.proofs.audio.Audio.answer.Goals as goal
