@@ -1,6 +1,6 @@
 -- Questions: either one was answered no, or all were answered yes. Assumes nothing.
 use Rattle.std.proofs.Common.{◌≡◌, ℕ, Bool, true, false, cond, List, [], ◌∷◌, Ok, Err, Result, sym, refl, ap, ◌∙◌, subst, arith}
-use Rattle.std.specs.List.{AllByRecursion as All}
+use Rattle.std.specs.List.{AllByRecursion}
 use Rattle.refusal.specs.Questions.{asked}
 
 -- each is answered yes
@@ -50,6 +50,6 @@ module _ {F T : Type 0} (So : F → Type 0) (f : F) where
   given true x r so rest e = rest e
   given false x r so rest e = let i : x ≡ f = cc in subst So i so
 
-  pub refusal_so : (qs : List (Bool × F)) (does : Result T F) → All (λ q. So q.1) qs → (does ≡ Err f → So f) → asked {Y = Result T F} qs (λ x. Err x) does ≡ Err f → So f
+  pub refusal_so : (qs : List (Bool × F)) (does : Result T F) → AllByRecursion (λ q. So q.1) qs → (does ≡ Err f → So f) → asked {Y = Result T F} qs (λ x. Err x) does ≡ Err f → So f
   refusal_so [] does so own e = own e
   refusal_so (q ∷ qs) does so own e = given q.0 q.1 (asked qs (λ x. Err x) does) so.0 (refusal_so qs does so.1 own) e

@@ -1,6 +1,6 @@
 -- What a kind of message means, and the laws of such a meaning. Assumes nothing.
 use Rattle.std.specs.Prelude.{◌≡◌, ℕ, ◌<◌, ◌≤◌, Bool, true, List, length, Some, Ok, Err, Option, Result}
-use Rattle.std.specs.List.{AllByRecursion as All}
+use Rattle.std.specs.List.{AllByRecursion}
 use Rattle.refusal.specs.Questions.{one_of}
 use Rattle.refusal.specs.declared.Refusal.{Refusal}
 use Rattle.refusal.specs.declared.Refusal.TheVariants.{Kind}
@@ -24,7 +24,7 @@ pub record Lawful {M : Type 0} (k : Meaning M) : Type 0 where
   pub gaps : (m : M) (g : ℕ) → k.gap m ≡ Some g → (1 ≤ g) × (g ≤ 60000)
   -- each body has the stated length, and is made of octets
   pub body_len : (m : M) → length (k.body m) ≡ k.len
-  pub octets : (m : M) → All (λ o. o < 256) (k.body m)
+  pub octets : (m : M) → AllByRecursion (λ o. o < 256) (k.body m)
   -- reading the body of a message gives that message back
   pub reads : (m : M) → k.read (k.body m) ≡ Ok m
   -- octets that are no message's body are refused, with a cause of the list
