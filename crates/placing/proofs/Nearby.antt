@@ -219,7 +219,7 @@ pub rest_is : (span unit from to gap s a b f g : ℕ) → 0 < span → s ≡ spa
     → (a * b % s + s - (f * g + gap) % s) % s ≡ rest (labels_apart unit from to -ℤ pos gap) span
 rest_is span unit from to gap s a b f g h es ea eb ef eg = rw (es, ea, eb, ef, eg) (rest_computed span unit from to gap h)
 
--- the three ways of `by-rest`
+-- the three ways of `by_rest`
 pub by_after : (span gap r q : ℕ) → r ≡ q → 2 * r < span → by_rest span gap q ≡ Some (pos (gap + r))
 by_after span gap r q e h =
     ap (by_rest span gap) (sym e) ∙ ap (λ b. cond b (Some (pos (gap + r))) (cond (ltb span (2 * r)) (Some (pos (gap + r) -ℤ pos span)) None)) (lt-ltb (2 * r) span h)
