@@ -1,7 +1,7 @@
 -- Questions: either one was answered no, or all were answered yes. Assumes nothing.
-use Rattle.std.proofs.Common.{◌≡◌, ℕ, Bool, true, false, cond, List, [], ◌∷◌, Ok, Err, Result, sym, refl, ap, ◌∙◌, subst, arith}
+use Rattle.std.proofs.Common.{◌≡◌, ℕ, Bool, true, false, cond, List, [], ◌∷◌, Ok, Err, Some, None, Option, Result, sym, refl, ap, ◌∙◌, subst, arith}
 use Rattle.std.specs.List.{AllByRecursion}
-use Rattle.refusal.specs.Questions.{asked}
+use Rattle.refusal.specs.Questions.{asked, allowed, unless}
 
 -- each is answered yes
 abbrev pub Yes : {X : Type 0} → List (Bool × X) → Type 0
@@ -53,3 +53,20 @@ module _ {F T : Type 0} (So : F → Type 0) (f : F) where
   pub refusal_so : (qs : List (Bool × F)) (does : Result T F) → AllByRecursion (λ q. So q.1) qs → (does ≡ Err f → So f) → asked {Y = Result T F} qs (λ x. Err x) does ≡ Err f → So f
   refusal_so [] does so own e = own e
   refusal_so (q ∷ qs) does so own e = given q.0 q.1 (asked qs (λ x. Err x) does) so.0 (refusal_so qs does so.1 own) e
+
+-- a call with a state, by the answer of its test
+module _ {F : Type 0} where
+  pub allowed_err : (o : Option F) (f : F) → allowed o ≡ Err f → o ≡ Some f
+  allowed_err None f e = let z : ◌≡◌ {A = ℕ} 0 1 = cc in absurd (omega arith)
+  allowed_err (Some x) f e = let i : x ≡ f = cc in ap (λ y. Some y) i
+
+  pub allowed_ok : (o : Option F) → allowed o ≡ Ok tt → o ≡ None
+  allowed_ok None e = refl
+  allowed_ok (Some x) e = let z : ◌≡◌ {A = ℕ} 0 1 = cc in absurd (omega arith)
+
+  module _ {S X : Type 0} (o : Option F) (s : S) (does : Result X F × S) where
+    pub unless_err : (f : F) → allowed o ≡ Err f → unless o s does ≡ (Err f, s)
+    unless_err f e = ap (λ q. unless q s does) (allowed_err o f e)
+
+    pub unless_ok : allowed o ≡ Ok tt → unless o s does ≡ does
+    unless_ok e = ap (λ q. unless q s does) (allowed_ok o e)

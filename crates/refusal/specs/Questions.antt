@@ -1,5 +1,5 @@
 -- Questions in order, and the refusal of the first that is answered no. Assumes nothing.
-use Rattle.std.specs.Prelude.{ℕ, Bool, false, cond, ◌&&◌, ◌||◌, List, [], ◌∷◌, Some, None, Err, Option, Result, ◌==◌, nat_le}
+use Rattle.std.specs.Prelude.{ℕ, Bool, false, cond, ◌&&◌, ◌||◌, List, [], ◌∷◌, Some, None, Ok, Err, Option, Result, ◌==◌, nat_le}
 
 -- A question is a pair: whether it is so, and the refusal where it is not. The questions are put in order. The first that
 -- is answered no refuses; where all are answered yes, the call does what it does.
@@ -10,6 +10,11 @@ asked (q ∷ qs) refuse does = cond q.0 (asked qs refuse does) (refuse q.1)
 -- the refusal of the first question answered no, if any
 abbrev pub first_no : {X : Type 0} → List (Bool × X) → Option X
 first_no qs = asked qs (λ x. Some x) None
+
+-- the answer of a test: nothing, or the refusal
+abbrev pub allowed : {X : Type 0} → Option X → Result (Unit {0}) X
+allowed None = Ok tt
+allowed (Some x) = Err x
 
 -- What a call with a state does, as its answer and the state after it: where nothing is refused, what it does, and otherwise the
 -- refusal, with the state as it was.

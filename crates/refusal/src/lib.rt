@@ -3,13 +3,15 @@
 
 ghost use Rattle.std.specs.Prelude.{◌≡◌};
 ghost use Rattle.refusal.specs.Numbers.{number_of, layer_of, place_of, cause_of};
+ghost use Rattle.refusal.specs.declared.Refusal.TheVariants.{Sending, Arrival, Type3, Kind, Placing};
 
+use std::error::Error;
 use std::fmt;
 
 pub mod times;
 
 // Loading a profile.
-#[derive(Clone, Copy)]
+#[derive(Clone, Copy, Debug, PartialEq, Eq)]
 pub enum ProfileFault {
     // not 1 to 32 entries
     EntryCount,
@@ -28,7 +30,7 @@ pub enum ProfileFault {
 }
 
 // Sending audio, an event, or what is due.
-#[derive(Clone, Copy)]
+#[derive(Clone, Copy, Debug, PartialEq, Eq)]
 pub enum SendingFault {
     TimeOutOfRange,
     // the profile has no entry at this place
@@ -48,7 +50,7 @@ pub enum SendingFault {
 }
 
 // An arrival, before its payload is read.
-#[derive(Clone, Copy)]
+#[derive(Clone, Copy, Debug, PartialEq, Eq)]
 pub enum ArrivalFault {
     TimeOutOfRange,
     // before the last arrival that was not refused
@@ -60,7 +62,7 @@ pub enum ArrivalFault {
 }
 
 // Reading a type 3 payload.
-#[derive(Clone, Copy)]
+#[derive(Clone, Copy, Debug, PartialEq, Eq)]
 pub enum Type3Fault {
     // not 5 to 12 octets
     PayloadSize,
@@ -72,7 +74,7 @@ pub enum Type3Fault {
 }
 
 // A kind of message.
-#[derive(Clone, Copy)]
+#[derive(Clone, Copy, Debug, PartialEq, Eq)]
 pub enum KindFault {
     // the digit type is above 3
     DigitType,
@@ -83,7 +85,7 @@ pub enum KindFault {
 }
 
 // Placing an arrival in time.
-#[derive(Clone, Copy)]
+#[derive(Clone, Copy, Debug, PartialEq, Eq)]
 pub enum PlacingFault {
     // two elapsed times are equally near
     EquallyNear,
@@ -92,7 +94,7 @@ pub enum PlacingFault {
 }
 
 // The layers of the product, each with its own questions.
-#[derive(Clone, Copy)]
+#[derive(Clone, Copy, Debug, PartialEq, Eq)]
 pub enum Layer {
     Profile,
     Sending,
@@ -103,7 +105,7 @@ pub enum Layer {
 }
 
 // A refusal. Of a profile it also has the place of the entry that is wrong, from 0.
-#[derive(Clone, Copy)]
+#[derive(Clone, Copy, Debug, PartialEq, Eq)]
 pub enum Refusal {
     Profile(ProfileFault, usize),
     Sending(SendingFault),
@@ -185,9 +187,50 @@ impl Refusal {
     }
 }
 
-impl fmt::Debug for Refusal {
+impl fmt::Display for Refusal {
     fn fmt<W: fmt::Write>(&self, f: &mut fmt::Formatter<W>) -> fmt::Result {
-        let number = self.number();
-        write!(f, "refused with {number}")
+        write!(f, "refused with {}", self.number())
+    }
+}
+
+impl Error for Refusal {}
+
+impl From<SendingFault> for Refusal {
+    ghost from_gives = { λ fault refusal. refusal ≡ Sending fault };
+
+    fn from(fault: SendingFault) -> Refusal {
+        Refusal::Sending(fault)
+    }
+}
+
+impl From<ArrivalFault> for Refusal {
+    ghost from_gives = { λ fault refusal. refusal ≡ Arrival fault };
+
+    fn from(fault: ArrivalFault) -> Refusal {
+        Refusal::Arrival(fault)
+    }
+}
+
+impl From<Type3Fault> for Refusal {
+    ghost from_gives = { λ fault refusal. refusal ≡ Type3 fault };
+
+    fn from(fault: Type3Fault) -> Refusal {
+        Refusal::Type3(fault)
+    }
+}
+
+impl From<KindFault> for Refusal {
+    ghost from_gives = { λ fault refusal. refusal ≡ Kind fault };
+
+    fn from(fault: KindFault) -> Refusal {
+        Refusal::Kind(fault)
+    }
+}
+
+impl From<PlacingFault> for Refusal {
+    ghost from_gives = { λ fault refusal. refusal ≡ Placing fault };
+
+    fn from(fault: PlacingFault) -> Refusal {
+        Refusal::Placing(fault)
     }
 }

@@ -1,7 +1,8 @@
 // Times: whole milliseconds from 0.
 ghost use Rattle.std.specs.Prelude.{◌≡◌, true, if◌then◌else◌, Some, None};
-ghost use Rattle.std.specs.Option.{option_map};
 ghost use Rattle.refusal.specs.Questions.{is_time};
+
+use std::marker::Model;
 
 // The last time, 2^40 - 1.
 pub const LAST_TIME: u64 = 1_099_511_627_775;
@@ -13,22 +14,35 @@ pub fn is_time(ms: u64) -> bool
     ms <= LAST_TIME
 }
 
-// A number of milliseconds that is a time.
+// A number of milliseconds that is a time. In contracts it is that number.
 #[derive(Clone, Copy)]
 pub struct Time {
     ms: u64,
-    ghost in_range: { is_time ms ≡ true },
+}
+
+impl Model for Time {
+    ghost use Rattle.std.specs.Prelude.{◌≡◌, ℕ, true};
+    ghost use Rattle.refusal.specs.Questions.{is_time};
+
+    ghost Value = { ℕ };
+
+    ghost view = { λ t. t.ms };
+
+    ghost invariant = { λ t. is_time t.ms ≡ true };
+
+    ghost inverse = { λ n. record { ms = n } };
 }
 
 impl Time {
     pub fn new(ms: u64) -> Option<Time>
-        ensures { option_map (λ t. t.ms) result ≡ (if is_time ms then Some ms else None) }
+        ensures { result ≡ (if is_time ms then Some ms else None) }
     {
         if is_time(ms) { Some(Time { ms }) } else { None }
     }
 
     pub fn get(self) -> u64
-        ensures { result ≡ self.ms }
+        ensures value { result ≡ self }
+        ensures time { is_time result ≡ true }
     {
         self.ms
     }
