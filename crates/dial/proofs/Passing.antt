@@ -5,8 +5,7 @@ use Rattle.std.proofs.lemmas.List.{drop_all}
 use Rattle.std.proofs.lemmas.Bool.Decides.{nat_tests}
 use Rattle.refusal.specs.Questions.{first_no, unless}
 use Rattle.refusal.specs.declared.Refusal.{Refusal}
-use Rattle.type3.specs.Octets.{Contents, written, read}
-use Rattle.type3.specs.Contents.{contents}
+use Rattle.type3.specs.Octets.{written, read}
 use Rattle.type3.specs.declared.payload.Payload.{Payload}
 use Rattle.type3.proofs.RoundTrip.{length_written, read_written}
 use Rattle.sending.specs.declared.event.Event.{Event}
@@ -71,10 +70,10 @@ module _ (s : Stream Digit) (t n : ℕ) (buffer after : List ℕ) (six : length 
 
   -- so it is read, and as what was due
   pub never_refused : {X : Type 0} (f : Refusal) → Err f ≡ read digits after → X
-  never_refused f e = let i : ◌≡◌ {A = Result (Contents Digit) Refusal} (Err f) (Ok (said_by d)) = e ∙ reads in never (let z : ◌≡◌ {A = ℕ} 0 1 = cc in z)
+  never_refused f e = let i : ◌≡◌ {A = Result (Payload Digit) Refusal} (Err f) (Ok (said_by d)) = e ∙ reads in never (let z : ◌≡◌ {A = ℕ} 0 1 = cc in z)
 
   pub hears : (p : Payload Digit) → Ok (contents p) ≡ read digits after → Ok (Some (contents p)) ≡ says (due_of s t) (due digits s t (length buffer)).0
   hears p e =
-      let i : ◌≡◌ {A = Result (Contents Digit) Refusal} (Ok (contents p)) (Ok (said_by d)) = e ∙ reads in
+      let i : ◌≡◌ {A = Result (Payload Digit) Refusal} (Ok (contents p)) (Ok (said_by d)) = e ∙ reads in
       let j : contents p ≡ said_by d = cc in
       ap (λ c. Ok (Some c)) j ∙ sym (ap (says (due_of s t)) was_sent.answer ∙ ap (λ x. Ok (option_map said_by x)) was_sent.was_due)

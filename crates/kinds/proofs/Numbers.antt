@@ -8,7 +8,8 @@ use Rattle.refusal.specs.declared.Type3Fault.TheVariants.{KindLength}
 use Rattle.refusal.specs.declared.KindFault.TheVariants.{Body}
 use Rattle.refusal.proofs.Asked.{refusal_so}
 use Rattle.type3.specs.Kinds.{Meaning, or_cause}
-use Rattle.type3.specs.Octets.{Contents, body_in, type_in, questions, says, read_named, as_first, as_second, read_either}
+use Rattle.type3.specs.Octets.{body_in, type_in, questions, says, read_named, as_first, as_second, read_either}
+use Rattle.type3.specs.declared.payload.Payload.{Payload}
 use Rattle.kinds.specs.declared.digit.Digit.{Digit}
 use Rattle.kinds.specs.declared.cas.CasBits.{CasBits}
 use Rattle.kinds.specs.Digits.{digits}
@@ -42,15 +43,15 @@ cas_causes o c e = by (get_or o 0 0) e
     by n e = grind (arith, nat_tests)
 
 module _ (o : List ℕ) (f : Refusal) where
-  first_err : (r : Result (Contents Digit) Refusal) → as_first {Y = Contents CasBits} r ≡ Err f → r ≡ Err f
+  first_err : (r : Result (Payload Digit) Refusal) → as_first {Y = Payload CasBits} r ≡ Err f → r ≡ Err f
   first_err (Ok x) e = let z : ◌≡◌ {A = ℕ} 0 1 = cc in absurd (omega arith)
   first_err (Err g) e = let i : g ≡ f = cc in ap (λ x. Err x) i
 
-  second_err : (r : Result (Contents CasBits) Refusal) → as_second {X = Contents Digit} r ≡ Err f → r ≡ Err f
+  second_err : (r : Result (Payload CasBits) Refusal) → as_second {X = Payload Digit} r ≡ Err f → r ≡ Err f
   second_err (Ok x) e = let z : ◌≡◌ {A = ℕ} 0 1 = cc in absurd (omega arith)
   second_err (Err g) e = let i : g ≡ f = cc in ap (λ x. Err x) i
 
-  chosen : (b : Bool) → cond b (as_first {Y = Contents CasBits} (read_named digits o)) (as_second (read_named cas o)) ≡ Err f → Told f
+  chosen : (b : Bool) → cond b (as_first {Y = Payload CasBits} (read_named digits o)) (as_second (read_named cas o)) ≡ Err f → Told f
   chosen true e = named_told digits (λ p c. cause (get_or p 0 0) (get_or p 1 0) c) o f (first_err (read_named digits o) e)
   chosen false e = named_told cas cas_causes o f (second_err (read_named cas o) e)
 

@@ -3,7 +3,8 @@ use Rattle.std.specs.Prelude.{◌≡◌, ℕ, ◌+◌, ◌*◌, ◌<◌, ◌≤�
 use Rattle.refusal.specs.Numbers.{number_of, cause_of}
 use Rattle.refusal.specs.Questions.{one_of}
 use Rattle.refusal.specs.declared.Refusal.{Refusal}
-use Rattle.type3.specs.Octets.{Contents, read_either}
+use Rattle.type3.specs.Octets.{read_either}
+use Rattle.type3.specs.declared.payload.Payload.{Payload}
 use Rattle.type3.specs.declared.payload.Either.{Either}
 use Rattle.type3.specs.declared.payload.Either.TheVariants.{First, Second}
 use Rattle.kinds.specs.declared.digit.Digit.{Digit}
@@ -12,7 +13,7 @@ use Rattle.kinds.specs.Digits.{digits}
 use Rattle.kinds.specs.Cas.{cas}
 
 abbrev pub Outcome : Type 0
-Outcome = Result (Either (Contents Digit) (Contents CasBits)) Refusal
+Outcome = Result (Either (Payload Digit) (Payload CasBits)) Refusal
 
 -- the message type of digits, or of CAS
 abbrev pub type_of : {X Y : Type 0} → Either X Y → ℕ

@@ -3,7 +3,8 @@ use Rattle.std.proofs.Common.{◌≡◌, ℕ, ◌%◌, ◌<◌, ◌≤◌, Bool,
 use Rattle.std.proofs.lemmas.Bool.{and_parts, eqb-true}
 use Rattle.refusal.specs.declared.Refusal.{Refusal}
 use Rattle.type3.specs.Kinds.{Meaning, Lawful}
-use Rattle.type3.specs.Octets.{Contents, read_either}
+use Rattle.type3.specs.Octets.{read_either}
+use Rattle.type3.specs.declared.payload.Payload.{Payload}
 use Rattle.profile.specs.declared.entry.Entry.{Entry}
 use Rattle.profile.specs.Questions.{refusal}
 use Rattle.profile.specs.Labels.{find, interval_of, span_of}
@@ -65,7 +66,7 @@ module _ {P Q : Type 0} (p : Meaning P) (q : Meaning Q) (es : List Entry) (lp : 
       abbrev pk : Packet P Q
       pk = packet k (inj P Q w) (other a) w d
 
-      abbrev said : Contents (Of P Q w)
+      abbrev said : Payload (Of P Q w)
       said = said_by d
 
       abbrev before : Inbound (Of P Q w)

@@ -2,7 +2,8 @@
 use Rattle.std.proofs.Common.{◌≡◌, ℕ, ◌<◌, false, cond, Some, Ok, Err, Option, Result, refl}
 use Rattle.refusal.specs.declared.Refusal.{Refusal}
 use Rattle.type3.specs.Kinds.{Meaning, Lawful}
-use Rattle.type3.specs.Octets.{Contents, written, read_either}
+use Rattle.type3.specs.Octets.{written, read_either}
+use Rattle.type3.specs.declared.payload.Payload.{Payload}
 use Rattle.type3.specs.declared.payload.Either.{Either}
 use Rattle.type3.specs.declared.payload.Either.TheVariants as either
 use Rattle.type3.proofs.Values.{first_written, second_written}
@@ -34,7 +35,7 @@ module _ (P Q : Type 0) where
   inj First m = either.First m
   inj Second m = either.Second m
 
-  abbrev pub saying : (w : Which) → Contents (Of P Q w) → Either (Contents P) (Contents Q)
+  abbrev pub saying : (w : Which) → Payload (Of P Q w) → Either (Payload P) (Payload Q)
   saying First x = either.First x
   saying Second x = either.Second x
 
@@ -101,22 +102,22 @@ module _ (P Q : Type 0) where
     lawful lp lq Second = lq
 
     -- a payload of a kind is read as such
-    pub read_lane : Lawful p → Lawful q → (p.message_type ≡ q.message_type → ⊥) → (w : Which) (x : Contents (Of P Q w)) → x.redundancy < 4 → x.stamp < 16384
+    pub read_lane : Lawful p → Lawful q → (p.message_type ≡ q.message_type → ⊥) → (w : Which) (x : Payload (Of P Q w)) → x.redundancy < 4 → x.stamp < 16384
         → read_either p q (written (meaning w) x) ≡ Ok (saying w x)
     read_lane lp lq ne First x lr ls = first_written p q lp lq x lr ls
     read_lane lp lq ne Second x lr ls = second_written p q lp lq x lr ls ne
 
     -- and goes to its stream
-    abbrev pub received : (w : Which) → End P Q → ℕ → Contents (Of P Q w) → Result (Told (MessageNews (Of P Q w))) Refusal × Inbound (Of P Q w)
+    abbrev pub received : (w : Which) → End P Q → ℕ → Payload (Of P Q w) → Result (Told (MessageNews (Of P Q w))) Refusal × Inbound (Of P Q w)
     received w s a x = receive (meaning w) (into w s) a x
 
-    pub arrive_lane : (w : Which) (s : End P Q) (a : ℕ) (x : Contents (Of P Q w))
+    pub arrive_lane : (w : Which) (s : End P Q) (a : ℕ) (x : Payload (Of P Q w))
         → arrive_read p q s a (Ok (saying w x)) ≡ (on_lane w (received w s a x).0, with_in w s (clock_after s a (received w s a x).0) (received w s a x).1)
     arrive_lane First s a x = refl
     arrive_lane Second s a x = refl
 
     -- what is news there names the message
-    pub news_lane : (w : Which) (r : Inbound (Of P Q w)) (x : Contents (Of P Q w)) (told : Result (Told Moved) Refusal) (placed : Option Placed)
+    pub news_lane : (w : Which) (r : Inbound (Of P Q w)) (x : Payload (Of P Q w)) (told : Result (Told Moved) Refusal) (placed : Option Placed)
         → news_of (on_lane w (receive_by (meaning w) r x told placed).0) ≡ naming (message (inj w x.message)) told
     news_lane First r x (Ok (News n)) placed = refl
     news_lane First r x (Ok Repeat) placed = refl
@@ -128,7 +129,7 @@ module _ (P Q : Type 0) where
     news_lane Second r x (Err f) placed = refl
 
 -- the stream after a payload: where it stands, and what is in force
-module _ {M : Type 0} (k : Meaning M) (s : Inbound M) (x : Contents M) (label a : ℕ) where
+module _ {M : Type 0} (k : Meaning M) (s : Inbound M) (x : Payload M) (label a : ℕ) where
   pub placed_by : (r : Result (Told Moved) Refusal) → (receive_by k s x r (placed_after s.placed label a r)).1.placed ≡ placed_after s.placed label a r
   placed_by (Ok n) = refl
   placed_by (Err f) = refl

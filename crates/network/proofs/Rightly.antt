@@ -5,7 +5,8 @@ use Rattle.std.specs.Option.{option_map}
 use Rattle.refusal.specs.Questions.{first_no, unless}
 use Rattle.refusal.specs.declared.Refusal.{Refusal}
 use Rattle.type3.specs.Kinds.{Meaning, Lawful}
-use Rattle.type3.specs.Octets.{Contents, read_either}
+use Rattle.type3.specs.Octets.{read_either}
+use Rattle.type3.specs.declared.payload.Payload.{Payload}
 use Rattle.type3.specs.declared.payload.Either.{Either}
 use Rattle.type3.specs.declared.payload.Either.TheVariants as either
 use Rattle.profile.specs.declared.entry.Entry.{Entry}
@@ -40,7 +41,7 @@ use Rattle.network.proofs.Held.{HeldAt, Held, known_of, new_held, more_audio, he
 
 module _ {P Q : Type 0} (p : Meaning P) (q : Meaning Q) (s : End P Q) (a uui : ℕ) (o : List ℕ) (So : End P Q → Type 0) (so : So s)
     (ins_so : (clock : ℕ) (audio_in : Option Placed) (first : Inbound P) (second : Inbound Q) → So (with_ins s clock audio_in first second)) where
-  by_read : (r : Result (Either (Contents P) (Contents Q)) Refusal) → So (arrive_read p q s a r).1
+  by_read : (r : Result (Either (Payload P) (Payload Q)) Refusal) → So (arrive_read p q s a r).1
   by_read (Ok (either.First x)) = ins_so _ _ _ _
   by_read (Ok (either.Second x)) = ins_so _ _ _ _
   by_read (Err f) = so

@@ -3,7 +3,7 @@ use Rattle.std.proofs.Common.{◌≡◌, Bool, true, false, cond, List, [], ◌�
 use Rattle.std.specs.Option.{option_map}
 use Rattle.refusal.specs.declared.Refusal.{Refusal}
 use Rattle.type3.specs.Kinds.{Meaning}
-use Rattle.type3.specs.Octets.{Contents}
+use Rattle.type3.specs.declared.payload.Payload.{Payload}
 use Rattle.placing.specs.declared.stream.Placed.{Placed}
 use Rattle.placing.specs.declared.stream.Moved.{Moved}
 use Rattle.placing.specs.declared.stream.Told.{Told}
@@ -31,7 +31,7 @@ one_more f x (y ∷ ys) o true = refl
 
 module _ {M : Type 0} (k : Meaning M) where
   -- one arrival puts its message in force where it is news
-  forced : (s : Inbound M) (x : Contents M) (r : Result (Told Moved) Refusal) (placed : Option Placed)
+  forced : (s : Inbound M) (x : Payload M) (r : Result (Told Moved) Refusal) (placed : Option Placed)
       → (receive_by k s x r placed).1.force ≡ cond (is_news (receive_by k s x r placed).0) (Some x.message) s.force
   forced s x (Err f) placed = refl
   forced s x (Ok (News m)) placed = refl

@@ -5,7 +5,7 @@ use Rattle.std.specs.Option.{option_map}
 use Rattle.refusal.specs.Questions.{is_time}
 use Rattle.refusal.specs.declared.Refusal.{Refusal}
 use Rattle.type3.specs.Kinds.{Meaning}
-use Rattle.type3.specs.Octets.{Contents}
+use Rattle.type3.specs.declared.payload.Payload.{Payload}
 use Rattle.placing.specs.declared.stream.Placed.{Placed}
 use Rattle.placing.specs.declared.stream.Moved.{Moved}
 use Rattle.placing.specs.declared.stream.Told.{Told}
@@ -126,7 +126,7 @@ module _ {M : Type 0} (k : Meaning M) where
   -- what a payload that was read says, and when it arrived
   pub record Arrival : Type 0 where
     pub time : ℕ
-    pub says : Contents M
+    pub says : Payload M
 
   pub record Heard : Type 0 where
     pub arrival : Arrival

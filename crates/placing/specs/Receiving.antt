@@ -2,7 +2,7 @@
 use Rattle.std.specs.Prelude.{ℕ, Bool, false, cond, Some, None, Ok, Err, Option, Result, nat_lt}
 use Rattle.refusal.specs.declared.Refusal.{Refusal}
 use Rattle.type3.specs.Kinds.{Meaning}
-use Rattle.type3.specs.Octets.{Contents}
+use Rattle.type3.specs.declared.payload.Payload.{Payload}
 use Rattle.placing.specs.declared.stream.Placed.{Placed}
 use Rattle.placing.specs.declared.stream.Moved.{Moved}
 use Rattle.placing.specs.declared.stream.Told.{Told}
@@ -28,10 +28,10 @@ module _ {M : Type 0} where
     in_force (Some n) m = k.same n m
 
     -- a copy of an event is an event; a refresh confirms what is in force, or recovers what was lost
-    abbrev pub class_of : Option M → Contents M → Class
+    abbrev pub class_of : Option M → Payload M → Class
     class_of force x = cond (nat_lt x.redundancy 3) Event (cond (in_force force x.message) Confirmed Recovered)
 
-    abbrev pub told_as : Option M → Contents M → Told Moved → Told (MessageNews M)
+    abbrev pub told_as : Option M → Payload M → Told Moved → Told (MessageNews M)
     told_as force x (News m) =
         News (record { class = class_of force x; redundancy = x.redundancy; elapsed = m.elapsed; position = m.position; message = x.message })
     told_as force x Repeat = Repeat
@@ -43,10 +43,10 @@ module _ {M : Type 0} where
     force_after force m Repeat = force
     force_after force m Late = force
 
-    abbrev pub receive_by : Inbound M → Contents M → Result (Told Moved) Refusal → Option Placed → Result (Told (MessageNews M)) Refusal × Inbound M
+    abbrev pub receive_by : Inbound M → Payload M → Result (Told Moved) Refusal → Option Placed → Result (Told (MessageNews M)) Refusal × Inbound M
     receive_by s x (Err f) placed = (Err f, s)
     receive_by s x (Ok n) placed = (Ok (told_as s.force x n), record { placed = placed; force = force_after s.force x.message n })
 
     -- what a payload that was read says, arriving at a time
-    abbrev pub receive : Inbound M → ℕ → Contents M → Result (Told (MessageNews M)) Refusal × Inbound M
+    abbrev pub receive : Inbound M → ℕ → Payload M → Result (Told (MessageNews M)) Refusal × Inbound M
     receive s a x = let p = place 16384 1 s.placed x.stamp a in receive_by s x p.0 p.1

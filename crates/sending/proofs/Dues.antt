@@ -4,7 +4,8 @@ use Rattle.refusal.specs.Questions.{first_no, unless}
 use Rattle.refusal.specs.declared.Refusal.{Refusal}
 use Rattle.refusal.proofs.Asked.{accepted}
 use Rattle.type3.specs.Kinds.{Meaning, Lawful}
-use Rattle.type3.specs.Octets.{Contents, write}
+use Rattle.type3.specs.Octets.{write}
+use Rattle.type3.specs.declared.payload.Payload.{Payload}
 use Rattle.type3.proofs.Writes.{room_yes}
 use Rattle.type3.proofs.RoundTrip.{length_written}
 use Rattle.sending.specs.Sending.{Stream, Due, due_of, said_by, octets_of, after_packet, sent, due_questions, due}
@@ -20,7 +21,7 @@ module _ {M : Type 0} (k : Meaning M) (law : Lawful k) (s : Stream M) (t : ℕ) 
   room =
       (accepted (λ f. Some f) None (due_questions k s t (length out)) None (λ f e. let z : ◌≡◌ {A = ℕ} 0 1 = cc in absurd (omega arith)) (sym asked)).0.1.1.0
 
-  module _ (x : Contents M) (is : x ≡ said_by d) where
+  module _ (x : Payload M) (is : x ≡ said_by d) where
     wrote : write k x out ≡ (Ok (k.len + 4), octets_of k d ++ drop (k.len + 4) out)
     wrote = ap (λ y. write k y out) is ∙ room_yes k law (said_by d) out room
 

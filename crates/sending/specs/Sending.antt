@@ -6,7 +6,8 @@ use Rattle.refusal.specs.declared.Refusal.{Refusal}
 use Rattle.refusal.specs.declared.Refusal.TheVariants.{Sending}
 use Rattle.refusal.specs.declared.SendingFault.TheVariants.{TimeOutOfRange, BehindClock, NotLater, BufferTooShort}
 use Rattle.type3.specs.Kinds.{Meaning}
-use Rattle.type3.specs.Octets.{Contents, written}
+use Rattle.type3.specs.Octets.{written}
+use Rattle.type3.specs.declared.payload.Payload.{Payload}
 use Rattle.sending.specs.declared.event.Event.{Event}
 
 -- The sending half of a message stream: the time of the latest call that was not refused, the latest event, how many copies of
@@ -72,7 +73,7 @@ module _ {M : Type 0} where
   due_of s t = due_by s t s.latest
 
   -- what a packet says: its stamp is the time that it is made for, modulo 16,384
-  abbrev pub said_by : Due M → Contents M
+  abbrev pub said_by : Due M → Payload M
   said_by d = record { redundancy = d.redundancy; stamp = d.time % 16384; message = d.message }
 
   module _ (k : Meaning M) where

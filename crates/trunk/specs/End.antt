@@ -6,7 +6,8 @@ use Rattle.refusal.specs.declared.Refusal.{Refusal}
 use Rattle.refusal.specs.declared.Refusal.TheVariants.{Arrival}
 use Rattle.refusal.specs.declared.ArrivalFault.TheVariants.{TimeOutOfRange, RunsBack, UnknownUui, NoSuchAudio}
 use Rattle.type3.specs.Kinds.{Meaning}
-use Rattle.type3.specs.Octets.{Contents, read_either}
+use Rattle.type3.specs.Octets.{read_either}
+use Rattle.type3.specs.declared.payload.Payload.{Payload}
 use Rattle.type3.specs.declared.payload.Either.{Either}
 use Rattle.type3.specs.declared.payload.Either.TheVariants.{First, Second}
 use Rattle.profile.specs.declared.entry.Entry.{Entry}
@@ -124,7 +125,7 @@ module _ {P Q : Type 0} where
 
   module _ (p : Meaning P) (q : Meaning Q) where
     -- a type 3 packet, by what is read from it
-    abbrev pub arrive_read : End P Q → ℕ → Result (Either (Contents P) (Contents Q)) Refusal → Result (Arrived P Q) Refusal × End P Q
+    abbrev pub arrive_read : End P Q → ℕ → Result (Either (Payload P) (Payload Q)) Refusal → Result (Arrived P Q) Refusal × End P Q
     arrive_read s a (Err f) = (Err f, s)
     arrive_read s a (Ok (First x)) =
         let r = receive p s.first_in a x in

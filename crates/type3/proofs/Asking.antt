@@ -7,7 +7,8 @@ use Rattle.refusal.specs.declared.Refusal.TheVariants.{Type3}
 use Rattle.refusal.specs.declared.Type3Fault.TheVariants.{UnknownType}
 use Rattle.refusal.proofs.Asked.{Yes, asked_yes, accepted, refused_alike}
 use Rattle.type3.specs.Kinds.{Meaning}
-use Rattle.type3.specs.Octets.{Contents, type_in, framing, questions, read_named, read, as_first, as_second, read_either}
+use Rattle.type3.specs.Octets.{type_in, framing, questions, read_named, read, as_first, as_second, read_either}
+use Rattle.type3.specs.declared.payload.Payload.{Payload}
 use Rattle.type3.specs.declared.payload.Either.{Either}
 
 -- what the questions that need no kind answer
@@ -43,7 +44,7 @@ module _ (o : List ℕ) where
       ∙ ap (λ b. cond b (read_named k o) (Err (Type3 UnknownType))) (eq-eqb _ _ (named_type t e ∙ h))
 
   module _ {P Q : Type 0} (p : Meaning P) (q : Meaning Q) where
-    abbrev by : Bool → Bool → Result (Either (Contents P) (Contents Q)) Refusal
+    abbrev by : Bool → Bool → Result (Either (Payload P) (Payload Q)) Refusal
     by first second = cond (first || second) (cond first (as_first (read_named p o)) (as_second (read_named q o))) (Err (Type3 UnknownType))
 
     named_either : (t : ℕ) → Named o (Ok t) → read_either p q o ≡ by (eqb t p.message_type) (eqb t q.message_type)

@@ -9,7 +9,9 @@ use Rattle.refusal.proofs.Asked.{Yes, asked_yes, accepted}
 use Rattle.crc10.specs.Check.{octet_bits, check_field, crc, crc_of, right}
 use Rattle.crc10.proofs.Ends.{field_end, checked_end, high_six, crc_low}
 use Rattle.type3.specs.Kinds.{Meaning, Lawful, or_cause}
-use Rattle.type3.specs.Octets.{Contents, framed, written, redundancy_in, stamp_in, body_in, type_in, questions, says, read_named, read}
+use Rattle.type3.specs.Octets.{framed, written, redundancy_in, stamp_in, body_in, type_in, questions, says, read_named, read}
+use Rattle.type3.specs.declared.payload.Payload.{Payload}
+use Rattle.type3.specs.Exactly.{Fits, Holds}
 use Rattle.type3.proofs.Parts.{parts, parts_length, parts_body, parts_top, is_parts}
 
 -- the upper six bits of the octet before the last do not tell the check
@@ -19,7 +21,7 @@ same_six t c d ht hc hd =
     ap (λ n. take 6 (octet_bits n)) (sym (e c hc)) ∙ high_six (t * 4) c (omega arith) hc
     ∙ sym (ap (λ n. take 6 (octet_bits n)) (sym (e d hd)) ∙ high_six (t * 4) d (omega arith) hd)
 
-module _ {M : Type 0} (k : Meaning M) (law : Lawful k) (x : Contents M) where
+module _ {M : Type 0} (k : Meaning M) (law : Lawful k) (x : Payload M) where
   abbrev front : List ℕ
   front = (x.redundancy * 64 + x.stamp / 256) ∷ (x.stamp % 256) ∷ k.body x.message
 
@@ -62,8 +64,10 @@ module _ {M : Type 0} (k : Meaning M) (law : Lawful k) (x : Contents M) where
       (size (length (written k x)) l, (right_written, (e, tt)))
 
   -- and says what was written
-  pub named_written : x.redundancy < 4 → x.stamp < 16384 → read_named k (written k x) ≡ Ok x
-  named_written lr ls =
+  pub named_written : Fits x → read_named k (written k x) ≡ Ok x
+  named_written fit =
+      let lr = fit.0 in
+      let ls = fit.1 in
       let a : ℕ = x.redundancy * 64 + x.stamp / 256 in
       let b : ℕ = x.stamp % 256 in
       let c : ℕ = crc_of (framed k x 0) in
@@ -74,11 +78,11 @@ module _ {M : Type 0} (k : Meaning M) (law : Lawful k) (x : Contents M) where
       ∙ ap (λ y. says (written k x) (or_cause y)) (law.reads x.message)
       ∙ ap₂ (λ (u v : ℕ). Ok (record { redundancy = u; stamp = v; message = x.message })) r s
 
-  pub read_written : x.redundancy < 4 → x.stamp < 16384 → read k (written k x) ≡ Ok x
-  read_written lr ls =
+  pub read_written : Fits x → read k (written k x) ≡ Ok x
+  read_written fit =
       asked_yes (λ f. Err f) (read_named k (written k x)) (questions (written k x) (eqb (type_in (written k x)) k.message_type))
       (asked_written _ (eq-eqb _ _ type_written))
-      ∙ named_written lr ls
+      ∙ named_written fit
 
   -- what a payload says, where its parts are these, is what was written to it
   record Found (o : List ℕ) : Type 0 where
@@ -92,7 +96,7 @@ module _ {M : Type 0} (k : Meaning M) (law : Lawful k) (x : Contents M) where
       record { reads = h ∙ ap (λ z. Ok z.message) i; redundancy = ap (λ z. z.redundancy) i; stamp = ap (λ z. z.stamp) i }
   found o (Err c) h e = let z : ◌≡◌ {A = ℕ} 0 1 = cc in absurd (omega arith)
 
-  pub named_back : (o : List ℕ) → ((i : ℕ) → get_or o i 0 < 256) → right o ≡ true → type_in o ≡ k.message_type → read_named k o ≡ Ok x → o ≡ written k x
+  pub named_back : (o : List ℕ) → ((i : ℕ) → get_or o i 0 < 256) → right o ≡ true → type_in o ≡ k.message_type → read_named k o ≡ Ok x → Holds k o x
   named_back o fits checks type e =
       let t = accepted (λ f. Err f) (says o (or_cause (k.read (body_in o)))) ((eqb (length o) (k.len + 4), Type3 KindLength) ∷ []) (Ok x) (λ f d. let z : ◌≡◌ {A = ℕ} 0 1 = cc in absurd (omega arith)) e in
       let sized : length o ≡ k.len + 4 = eqb-true _ _ t.0.0 in
@@ -117,7 +121,7 @@ module _ {M : Type 0} (k : Meaning M) (law : Lawful k) (x : Contents M) where
       let framed_is : o ≡ framed k x c = whole ∙ parts_same ea eb body ez ew in
       let check : c ≡ crc_of (framed k x 0) =
       sym (field_framed c (omega arith)) ∙ sym (ap check_field framed_is) ∙ eqb-true _ _ checks ∙ ap crc_of framed_is ∙ crc_framed c (omega arith) in
-      framed_is ∙ ap (framed k x) check
+      ((omega (arith, f.redundancy), omega (arith, f.stamp)), framed_is ∙ ap (framed k x) check)
     where
       sized_body : (o : List ℕ) → length o ≡ k.len + 4 → o ≡ parts (get_or o 0 0) (get_or o 1 0) (body_in o) (get_or o (length o - 2) 0) (get_or o (length o - 1) 0) → length (body_in o) ≡ k.len
       sized_body o e is =

@@ -1,5 +1,5 @@
 -- A written payload that was changed on the way is refused for its check. Assumes nothing.
-use Rattle.std.proofs.Common.{◌≡◌, ℕ, ◌+◌, Bool, true, false, cond, List, length, Ok, Err, Result, ap, ◌∙◌, arith}
+use Rattle.std.proofs.Common.{◌≡◌, ℕ, ◌+◌, Bool, true, false, cond, List, length, Err, Result, ap, ◌∙◌, arith}
 use Rattle.std.proofs.lemmas.Bool.Decides.{nat_tests}
 use Rattle.refusal.specs.Questions.{asked, from_to}
 use Rattle.refusal.specs.declared.Refusal.{Refusal}
@@ -9,15 +9,14 @@ use Rattle.crc10.specs.Check.{right}
 use Rattle.crc10.specs.Changes.{changed, found}
 use Rattle.crc10.proofs.Detect.{changes_are_found}
 use Rattle.type3.specs.Kinds.{Meaning, Lawful}
-use Rattle.type3.specs.Octets.{Contents, written, questions, read_named, read}
-use Rattle.type3.specs.Contents.{contents, contents_read}
+use Rattle.type3.specs.Octets.{written, questions, read_named, read}
 use Rattle.type3.specs.Changed.{ChangedIsRefused}
 use Rattle.type3.specs.declared.payload.Payload.{Payload}
 use Rattle.type3.proofs.RoundTrip.{length_written, right_written}
 
 module _ {M : Type 0} (k : Meaning M) (law : Lawful k) where
   -- whatever is asked after the check, and whatever the call does
-  pub spoiled_asked : {X : Type 0} (x : Contents M) (o : List ℕ) → length o ≡ length (written k x) → found (changed (written k x) o) ≡ true
+  pub spoiled_asked : {X : Type 0} (x : Payload M) (o : List ℕ) → length o ≡ length (written k x) → found (changed (written k x) o) ≡ true
       → (known : Bool) (does : Result X Refusal) → asked (questions o known) (λ f. Err f) does ≡ Err (Type3 WrongCrc)
   spoiled_asked x o e ch known does =
       let l = length_written k law x in
@@ -29,9 +28,5 @@ module _ {M : Type 0} (k : Meaning M) (law : Lawful k) where
       ap (λ b. cond b (cond (right o) (cond known does (Err (Type3 UnknownType))) (Err (Type3 WrongCrc))) (Err (Type3 PayloadSize))) (size (length o) n)
       ∙ ap (λ b. cond b (cond known does (Err (Type3 UnknownType))) (Err (Type3 WrongCrc))) wrong
 
-  as_refused : (r : Result (Payload M) Refusal) (f : Refusal) → contents_read r ≡ Err f → r ≡ Err f
-  as_refused (Ok p) f e = let z : ◌≡◌ {A = ℕ} 0 1 = cc in absurd (omega arith)
-  as_refused (Err g) f e = let i : g ≡ f = cc in ap (λ x. Err x) i
-
-  pub changed_is_refused : (o : List ℕ) (r : Result (Payload M) Refusal) → contents_read r ≡ read k o → ChangedIsRefused k o r
-  changed_is_refused o r e p n ch = as_refused r (Type3 WrongCrc) (e ∙ spoiled_asked (contents p) o n ch _ (read_named k o))
+  pub changed_is_refused : (o : List ℕ) (r : Result (Payload M) Refusal) → r ≡ read k o → ChangedIsRefused k o r
+  changed_is_refused o r e p n ch = e ∙ spoiled_asked p o n ch _ (read_named k o)

@@ -6,11 +6,12 @@ use Rattle.refusal.specs.declared.Refusal.TheVariants.{Sending}
 use Rattle.refusal.specs.declared.SendingFault.TheVariants.{BufferTooShort}
 use Rattle.crc10.specs.Check.{crc_of}
 use Rattle.type3.specs.Kinds.{Meaning, Lawful}
-use Rattle.type3.specs.Octets.{Contents, framed, written, write}
+use Rattle.type3.specs.Octets.{framed, written, write}
+use Rattle.type3.specs.declared.payload.Payload.{Payload}
 use Rattle.type3.proofs.Buffers.{framed_over}
 use Rattle.type3.proofs.Parts.{parts_length}
 
-module _ {M : Type 0} (k : Meaning M) (law : Lawful k) (x : Contents M) (out : List ℕ) where
+module _ {M : Type 0} (k : Meaning M) (law : Lawful k) (x : Payload M) (out : List ℕ) where
   pub frame_is : (check r s n t : ℕ) (b : List ℕ) → k.len + 4 ≤ length out → r ≡ x.redundancy → s ≡ x.stamp → n ≡ k.len → b ≡ k.body x.message → t ≡ k.message_type
       → set (set (put_mid 2 (n + 2 - 2) (set (set out 0 (r * 64 + s / 256)) 1 (s % 256)) b) (n + 2) (t * 4 + check / 256)) (n + 3) (check % 256) ≡ framed k x check ++ drop (k.len + 4) out
   frame_is check r s n t b room er es en eb et =

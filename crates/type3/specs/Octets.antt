@@ -8,30 +8,25 @@ use Rattle.refusal.specs.declared.SendingFault.TheVariants.{BufferTooShort}
 use Rattle.refusal.specs.declared.Type3Fault.TheVariants.{PayloadSize, WrongCrc, UnknownType, KindLength}
 use Rattle.crc10.specs.Check.{crc_of, right}
 use Rattle.type3.specs.Kinds.{Meaning, or_cause}
+use Rattle.type3.specs.declared.payload.Payload.{Payload}
 use Rattle.type3.specs.declared.payload.Either.{Either}
 use Rattle.type3.specs.declared.payload.Either.TheVariants.{First, Second}
-
--- what a payload says: its redundancy, its stamp and its message
-pub record Contents (M : Type 0) : Type 0 where
-  pub redundancy : ℕ
-  pub stamp : ℕ
-  pub message : M
 
 -- ---- writing
 
 module _ {M : Type 0} (k : Meaning M) where
   -- redundancy and stamp, the body, and the message type with a check of ten bits
-  abbrev pub framed : Contents M → ℕ → List ℕ
+  abbrev pub framed : Payload M → ℕ → List ℕ
   framed x check =
       (x.redundancy * 64 + x.stamp / 256) ∷ (x.stamp % 256)
       ∷ (k.body x.message ++ ((k.message_type * 4 + check / 256) ∷ (check % 256) ∷ []))
 
   -- the check is the CRC of all bits before it
-  abbrev pub written : Contents M → List ℕ
+  abbrev pub written : Payload M → List ℕ
   written x = framed x (crc_of (framed x 0))
 
   -- into a buffer: what is answered, and the buffer after
-  abbrev pub write : Contents M → List ℕ → Result ℕ Refusal × List ℕ
+  abbrev pub write : Payload M → List ℕ → Result ℕ Refusal × List ℕ
   write x buffer =
       asked ((nat_le (k.len + 4) (length buffer), Sending BufferTooShort) ∷ [])
       (λ f. (Err f, buffer))
@@ -60,19 +55,19 @@ framing o = (from_to 5 12 (length o), Type3 PayloadSize) ∷ (right o, Type3 Wro
 abbrev pub questions : List ℕ → Bool → List (Bool × Refusal)
 questions o known = framing o ++ ((known, Type3 UnknownType) ∷ [])
 
-abbrev pub says : {M : Type 0} → List ℕ → Result M Refusal → Result (Contents M) Refusal
+abbrev pub says : {M : Type 0} → List ℕ → Result M Refusal → Result (Payload M) Refusal
 says o (Ok m) = Ok (record { redundancy = redundancy_in o; stamp = stamp_in o; message = m })
 says o (Err f) = Err f
 
 -- what a payload that names this kind says
-abbrev pub read_named : {M : Type 0} → Meaning M → List ℕ → Result (Contents M) Refusal
+abbrev pub read_named : {M : Type 0} → Meaning M → List ℕ → Result (Payload M) Refusal
 read_named k o =
     asked (((length o == k.len + 4), Type3 KindLength) ∷ [])
     (λ f. Err f)
     (says o (or_cause (k.read (body_in o))))
 
 -- where this is the only kind
-abbrev pub read : {M : Type 0} → Meaning M → List ℕ → Result (Contents M) Refusal
+abbrev pub read : {M : Type 0} → Meaning M → List ℕ → Result (Payload M) Refusal
 read k o = asked (questions o (type_in o == k.message_type)) (λ f. Err f) (read_named k o)
 
 -- Where there are two kinds. Of two with one message type the first is chosen.
@@ -84,7 +79,7 @@ abbrev pub as_second : {X Y : Type 0} → Result Y Refusal → Result (Either X 
 as_second (Ok y) = Ok (Second y)
 as_second (Err f) = Err f
 
-abbrev pub read_either : {P Q : Type 0} → Meaning P → Meaning Q → List ℕ → Result (Either (Contents P) (Contents Q)) Refusal
+abbrev pub read_either : {P Q : Type 0} → Meaning P → Meaning Q → List ℕ → Result (Either (Payload P) (Payload Q)) Refusal
 read_either p q o =
     asked (questions o (type_in o == p.message_type || type_in o == q.message_type))
     (λ f. Err f)

@@ -1,17 +1,29 @@
-// The two numbers at the head of a type 3 payload, each with its bound in its type.
-ghost use Rattle.std.specs.Prelude.{◌≡◌, ◌+◌, ◌*◌, ◌/◌, ◌%◌, min, true, ltb, if◌then◌else◌, Some, None, nat_lt};
-ghost use Rattle.std.specs.Option.{option_map};
+// The two numbers at the head of a type 3 payload, each with its bound in its type. In contracts each is that number.
+ghost use Rattle.std.specs.Prelude.{◌≡◌, ◌+◌, ◌*◌, ◌/◌, ◌%◌, ◌<◌, min, ltb, if◌then◌else◌, Some, None};
+
+use std::marker::Model;
 
 // 0, 1 and 2 for the copies of an event, 3 for a refresh.
-#[derive(Clone, Copy)]
+#[derive(Clone, Copy, Debug, PartialEq, Eq)]
 pub struct Redundancy {
     value: u8,
-    ghost low: { nat_lt value 4 ≡ true },
+}
+
+impl Model for Redundancy {
+    ghost use Rattle.std.specs.Prelude.{ℕ, ◌<◌};
+
+    ghost Value = { ℕ };
+
+    ghost view = { λ r. r.value };
+
+    ghost invariant = { λ r. r.value < 4 };
+
+    ghost inverse = { λ n. record { value = n } };
 }
 
 impl Redundancy {
     pub fn new(value: u8) -> Option<Redundancy>
-        ensures { option_map (λ x. x.value) result ≡ (if ltb value 4 then Some value else None) }
+        ensures { result ≡ (if ltb value 4 then Some value else None) }
     {
         if value < 4 {
             Some(Redundancy { value })
@@ -22,14 +34,14 @@ impl Redundancy {
 
     // That of the first copy.
     pub fn first() -> Redundancy
-        ensures { result.value ≡ 0 }
+        ensures { result ≡ 0 }
     {
         Redundancy { value: 0 }
     }
 
     // That of the packet after this one: the next copy, and after the copies a refresh.
     pub fn next(self) -> Redundancy
-        ensures { result.value ≡ min (self.value + 1) 3 }
+        ensures { result ≡ min (self + 1) 3 }
     {
         if self.value < 3 {
             Redundancy {
@@ -42,13 +54,14 @@ impl Redundancy {
 
     // The redundancy in the first octet of a payload: its upper two bits.
     pub(crate) fn in_octet(first: u8) -> Redundancy
-        ensures { result.value ≡ first / 64 }
+        ensures { result ≡ first / 64 }
     {
         Redundancy { value: first / 64 }
     }
 
     pub fn get(self) -> u8
-        ensures { result ≡ self.value }
+        ensures value { result ≡ self }
+        ensures below { result < 4 }
     {
         let Redundancy { value } = self;
         value
@@ -56,22 +69,33 @@ impl Redundancy {
 }
 
 // A time in milliseconds, modulo 16,384.
-#[derive(Clone, Copy)]
+#[derive(Clone, Copy, Debug, PartialEq, Eq)]
 pub struct Stamp {
     ms: u16,
-    ghost low: { nat_lt ms 16384 ≡ true },
+}
+
+impl Model for Stamp {
+    ghost use Rattle.std.specs.Prelude.{ℕ, ◌<◌};
+
+    ghost Value = { ℕ };
+
+    ghost view = { λ s. s.ms };
+
+    ghost invariant = { λ s. s.ms < 16384 };
+
+    ghost inverse = { λ n. record { ms = n } };
 }
 
 impl Stamp {
     pub fn new(ms: u16) -> Option<Stamp>
-        ensures { option_map (λ x. x.ms) result ≡ (if ltb ms 16384 then Some ms else None) }
+        ensures { result ≡ (if ltb ms 16384 then Some ms else None) }
     {
         if ms < 16384 { Some(Stamp { ms }) } else { None }
     }
 
     // The stamp of a packet that is made for this time.
     pub fn at(time: u64) -> Stamp
-        ensures { result.ms ≡ time % 16384 }
+        ensures { result ≡ time % 16384 }
     {
         Stamp {
             ms: (time % 16384) as u16,
@@ -80,7 +104,7 @@ impl Stamp {
 
     // The stamp in the first two octets of a payload: their lower fourteen bits.
     pub(crate) fn in_octets(first: u8, second: u8) -> Stamp
-        ensures { result.ms ≡ first % 64 * 256 + second }
+        ensures { result ≡ first % 64 * 256 + second }
     {
         Stamp {
             ms: u16::from(first % 64) * 256 + u16::from(second),
@@ -88,7 +112,8 @@ impl Stamp {
     }
 
     pub fn get(self) -> u16
-        ensures { result ≡ self.ms }
+        ensures value { result ≡ self }
+        ensures below { result < 16384 }
     {
         self.ms
     }

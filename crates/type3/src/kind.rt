@@ -5,7 +5,7 @@ ghost use Rattle.type3.specs.Kinds.{Meaning, Lawful, or_cause};
 use refusal::Refusal;
 
 pub trait Kind {
-    type Message: Copy;
+    type Message: Copy + PartialEq;
 
     // What the kind means, and the laws that its meaning keeps. All that generic code knows of a kind is here.
     ghost model: { Meaning Self.Message };
@@ -32,8 +32,8 @@ pub trait Kind {
         requires { length octets.now ≡ model.len }
         ensures { result ≡ or_cause (model.read octets.now) };
 
-    fn same(one: Self::Message, other: Self::Message) -> bool
-        ensures { result ≡ model.same one other };
-
     ghost lawful: { Lawful model };
+
+    // `==` of messages is the sameness that the model means.
+    ghost compares: { (one other : Self.Message) → Self.Message.eq one other ≡ model.same one other };
 }

@@ -1,7 +1,6 @@
 // Reading a type 3 payload, of one kind or of one of two.
 ghost use Rattle.std.specs.Prelude.{◌≡◌, Ok, Err};
 ghost use Rattle.refusal.specs.Questions.{asked};
-ghost use Rattle.type3.specs.Contents.{contents_read, contents_of_either};
 ghost use Rattle.type3.specs.Octets.{type_in, framing, read_named, read, read_either};
 ghost use Rattle.type3.specs.Changed.{ChangedIsRefused};
 ghost use Rattle.type3.specs.Exactly.{Exactly, ExactlyEither};
@@ -14,7 +13,7 @@ use refusal::{Refusal, Type3Fault};
 
 // Reads a payload of this kind.
 pub fn read_payload<K: Kind>(octets: &[u8]) -> Result<Payload<K::Message>, Refusal>
-    ensures value { contents_read result ≡ read K.Kind.model octets.now }
+    ensures value { result ≡ read K.Kind.model octets.now }
     ensures exact { Exactly K.Kind.model octets.now result }
     ensures changed { ChangedIsRefused K.Kind.model octets.now result }
 {
@@ -22,10 +21,10 @@ pub fn read_payload<K: Kind>(octets: &[u8]) -> Result<Payload<K::Message>, Refus
 }
 
 fn read_one<K: Kind>(octets: &[u8]) -> Result<Payload<K::Message>, Refusal>
-    ensures { contents_read result ≡ read K.Kind.model octets.now }
+    ensures { result ≡ read K.Kind.model octets.now }
 {
     if named_type(octets)? != K::message_type() {
-        return Err(Refusal::Type3(Type3Fault::UnknownType));
+        return Err(Type3Fault::UnknownType.into());
     }
     read_named::<K>(octets)
 }
@@ -36,21 +35,21 @@ fn named_type(octets: &[u8]) -> Result<u8, Refusal>
 {
     let n = octets.len();
     if n < 5 || n > 12 {
-        return Err(Refusal::Type3(Type3Fault::PayloadSize));
+        return Err(Type3Fault::PayloadSize.into());
     }
     if !is_right(octets) {
-        return Err(Refusal::Type3(Type3Fault::WrongCrc));
+        return Err(Type3Fault::WrongCrc.into());
     }
     Ok(octets[n - 2] / 4)
 }
 
 // What a payload that names this kind says.
 fn read_named<K: Kind>(octets: &[u8]) -> Result<Payload<K::Message>, Refusal>
-    ensures { contents_read result ≡ read_named K.Kind.model octets.now }
+    ensures { result ≡ read_named K.Kind.model octets.now }
 {
     let n = octets.len();
     if n != K::body_len() + 4 {
-        return Err(Refusal::Type3(Type3Fault::KindLength));
+        return Err(Type3Fault::KindLength.into());
     }
     let message = K::read_body(&octets[2..n - 2])?;
     Ok(Payload {
@@ -64,7 +63,7 @@ fn read_named<K: Kind>(octets: &[u8]) -> Result<Payload<K::Message>, Refusal>
 pub fn read_either<P: Kind, Q: Kind>(
     octets: &[u8],
 ) -> Result<Either<Payload<P::Message>, Payload<Q::Message>>, Refusal>
-    ensures value { contents_of_either result ≡ read_either P.Kind.model Q.Kind.model octets.now }
+    ensures value { result ≡ read_either P.Kind.model Q.Kind.model octets.now }
     ensures exact { ExactlyEither P.Kind.model Q.Kind.model octets.now result }
 {
     read_two::<P, Q>(octets)
@@ -73,7 +72,7 @@ pub fn read_either<P: Kind, Q: Kind>(
 fn read_two<P: Kind, Q: Kind>(
     octets: &[u8],
 ) -> Result<Either<Payload<P::Message>, Payload<Q::Message>>, Refusal>
-    ensures { contents_of_either result ≡ read_either P.Kind.model Q.Kind.model octets.now }
+    ensures { result ≡ read_either P.Kind.model Q.Kind.model octets.now }
 {
     let named = named_type(octets)?;
     if named == P::message_type() {
@@ -82,5 +81,5 @@ fn read_two<P: Kind, Q: Kind>(
     if named == Q::message_type() {
         return Ok(Either::Second(read_named::<Q>(octets)?));
     }
-    Err(Refusal::Type3(Type3Fault::UnknownType))
+    Err(Type3Fault::UnknownType.into())
 }

@@ -1,6 +1,5 @@
 // Writing a type 3 payload.
 ghost use Rattle.std.specs.Prelude.{◌≡◌, ◌+◌, ◌<◌, ◌≤◌, ◌++◌, length, drop};
-ghost use Rattle.type3.specs.Contents.{contents};
 ghost use Rattle.type3.specs.Octets.{framed, write};
 ghost use Rattle.type3.specs.Exactly.{NoTwoAlike};
 
@@ -14,25 +13,25 @@ pub fn write_payload<K: Kind>(
     payload: Payload<K::Message>,
     out: &mut [u8],
 ) -> Result<usize, Refusal>
-    ensures value { result ≡ (write K.Kind.model (contents payload) out.old).0 }
-    ensures octets { out.new ≡ (write K.Kind.model (contents payload) out.old).1 }
+    ensures value { result ≡ (write K.Kind.model payload out.old).0 }
+    ensures octets { out.new ≡ (write K.Kind.model payload out.old).1 }
     ensures unalike { NoTwoAlike K.Kind.model }
 {
     let n = K::body_len() + 4;
     if out.len() < n {
-        return Err(Refusal::Sending(SendingFault::BufferTooShort));
+        return Err(SendingFault::BufferTooShort.into());
     }
-    frame::<K>(payload, 0, out);
+    frame::<K>(&payload, 0, out);
     let check = crc_of(&out[0..n]);
-    frame::<K>(payload, check, out);
+    frame::<K>(&payload, check, out);
     Ok(n)
 }
 
 // Writes the payload with this check.
-fn frame<K: Kind>(payload: Payload<K::Message>, check: u16, out: &mut [u8])
+fn frame<K: Kind>(payload: &Payload<K::Message>, check: u16, out: &mut [u8])
     requires check { check < 1024 }
     requires room { K.Kind.model.len + 4 ≤ length out.old }
-    ensures { out.new ≡ framed K.Kind.model (contents payload) check ++ drop (K.Kind.model.len + 4) out.old }
+    ensures { out.new ≡ framed K.Kind.model payload.now check ++ drop (K.Kind.model.len + 4) out.old }
 {
     let n = K::body_len();
     let stamp = payload.stamp.get();

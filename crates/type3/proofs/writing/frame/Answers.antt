@@ -1,8 +1,7 @@
-use Rattle.type3.specs.Contents.{contents}
 use Rattle.type3.proofs.Writes.{frame_is}
 use Rattle.type3.proofs.writing.frame.Goals as goal
 
 pub returns : goal.returns
 returns g c =
-    frame_is g.K.Kind.model g.met.K.Kind.lawful (contents c.args.payload) c.args.out.now c.args.check _ _ _ _ _
-    c.requires.room c.get.ensures c.get-stamp.ensures c.body_len-n.ensures c.write_body.ensures c.message_type.ensures
+    frame_is g.K.Kind.model g.met.K.Kind.lawful c.args.payload.now c.args.out.now c.args.check _ _ _ _ _
+    c.requires.room c.get.ensures.value c.get-stamp.ensures.value c.body_len-n.ensures c.write_body.ensures c.message_type.ensures
