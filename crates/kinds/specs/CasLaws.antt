@@ -1,8 +1,9 @@
 -- The laws of channel-associated signalling. Assumes nothing.
-use Rattle.std.specs.Prelude.{◌≡◌, ℕ, ◌<◌, ◌≤◌, Bool, true, false, List, [], ◌∷◌, length, Ok, nat_eq, slice_index, refl}
-use Rattle.std.proofs.Common.{ap, sym, ◌∙◌, arith}
+use Rattle.std.specs.Prelude.{◌≡◌, ℕ, ◌<◌, ◌≤◌, Bool, true, false, ◌&&◌, ◌↔◌, List, [], ◌∷◌, length, Ok, nat_eq, slice_index, refl}
+use mathlib.Core.Bool.{beq, false≢true}
+use Rattle.std.proofs.Common.{ap, sym, subst, ◌∙◌, arith}
 use Rattle.std.proofs.lemmas.Bool.Decides.{nat_tests}
-use Rattle.std.proofs.lemmas.Bool.{eqb-true, eq-eqb}
+use Rattle.std.proofs.lemmas.Bool.{and_parts, eqb-true, eq-eqb}
 use Rattle.type3.specs.Kinds.{Lawful}
 use Rattle.kinds.specs.Cas.{bit, octet, bits_in, read_octet, cas}
 use Rattle.kinds.specs.declared.cas.CasBits.{CasBits}
@@ -66,3 +67,34 @@ cas_lawful = record {
   alike = λ m n e. sym (bits_are m) ∙ ap bits_in (eqb-true _ _ e) ∙ bits_are n;
   itself = λ m. eq-eqb (octet m) (octet m) refl;
 }
+
+-- `==` of the program
+abbrev equal : CasBits → CasBits → Bool
+equal m n = beq m.a n.a && (beq m.b n.b && (beq m.c n.c && beq m.d n.d))
+
+bit_same : (x y : Bool) → beq x y ≡ true → x ≡ y
+bit_same true true e = refl
+bit_same true false e = absurd (false≢true e)
+bit_same false true e = absurd (false≢true e)
+bit_same false false e = refl
+
+bit_self : (x : Bool) → beq x x ≡ true
+bit_self true = refl
+bit_self false = refl
+
+equal_same : (m n : CasBits) → equal m n ≡ true → m ≡ n
+equal_same m n h =
+    let p = and_parts (beq m.a n.a) (beq m.b n.b && (beq m.c n.c && beq m.d n.d)) h in
+    let q = and_parts (beq m.b n.b) (beq m.c n.c && beq m.d n.d) p.1 in
+    let r = and_parts (beq m.c n.c) (beq m.d n.d) q.1 in
+    let a = bit_same m.a n.a p.0 in
+    let b = bit_same m.b n.b q.0 in
+    let c = bit_same m.c n.c r.0 in
+    let d = bit_same m.d n.d r.1 in
+    λ i. record { a = a i; b = b i; c = c i; d = d i }
+
+equal_self : (m : CasBits) → equal m m ≡ true
+equal_self m = rw (bit_self m.a, bit_self m.b, bit_self m.c, bit_self m.d)
+
+pub cas_compare : (m n : CasBits) → (equal m n ≡ true) ↔ (m ≡ n)
+cas_compare m n = (equal_same m n, λ h. subst (λ x. equal m x ≡ true) h (equal_self m))

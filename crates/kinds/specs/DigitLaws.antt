@@ -1,18 +1,47 @@
 -- The laws of dialled digits. Assumes nothing.
-use Rattle.std.specs.Prelude.{◌≡◌, ℕ, ◌+◌, ◌*◌, ◌/◌, ◌%◌, ◌<◌, ◌≤◌, Bool, true, false, cond, ltb, List, [], ◌∷◌, length, ℤ, Some, Ok, Err, nat_le, nat_lt, slice_index, refl}
-use Rattle.std.proofs.Common.{ap, sym, ◌∙◌, arith}
+use Rattle.std.specs.Prelude.{◌≡◌, ℕ, ◌+◌, ◌*◌, ◌/◌, ◌%◌, ◌<◌, ◌≤◌, Bool, true, false, cond, ◌&&◌, ltb, ◌↔◌, List, [], ◌∷◌, length, ℤ, Some, None, Ok, Err, Option, nat_le, nat_lt, slice_index, refl}
+use Rattle.std.proofs.Common.{ap, sym, subst, eqb, ◌∙◌, arith}
 use mathlib.Core.HLevel.{is_prop→PathP}
 use denote.Struct.Props.{props}
+use denote.Enum.Bare.{sameb}
+use denote.Enum.Declared.{tag_of}
 use Rattle.std.proofs.lemmas.Bool.Decides.{nat_tests}
-use Rattle.std.proofs.lemmas.Bool.{both_ways, ltb-true, le-leb, eq-eqb}
-use Rattle.std.specs.Option.{ok_or}
-use Rattle.refusal.specs.Questions.{one_of}
+use Rattle.std.proofs.lemmas.Bool.{both_ways, and_parts, eqb-true, ltb-true, le-leb, eq-eqb}
+use Rattle.std.specs.Option.{ok_or, option_and_then}
+use Rattle.refusal.specs.Questions.{asked, one_of}
+use Rattle.refusal.specs.declared.KindFault.{KindFault}
 use Rattle.refusal.specs.declared.Refusal.TheVariants.{Kind}
-use Rattle.refusal.specs.declared.KindFault.TheVariants.{DigitType, DigitCode}
-use Rattle.type3.specs.Kinds.{Lawful}
+use Rattle.refusal.specs.declared.KindFault.TheVariants.{DigitType, DigitCode, Body}
+use Rattle.type3.specs.Kinds.{Lawful, or_cause}
+use Rattle.kinds.specs.Systems.{number_of, system_of}
 use Rattle.kinds.specs.Codes.{is_code}
-use Rattle.kinds.specs.Digits.{digits, digit_by, digit, level_of, make, read_octets, same_digit}
+use Rattle.kinds.specs.Digits.{digits, digit_by, digit_in, digit, level_of, make, make_by, read_octets, same_digit}
+use Rattle.kinds.specs.contracts.system.System.{the_type}
+use Rattle.kinds.specs.declared.system.System.{System}
+use Rattle.kinds.specs.declared.system.System.TheVariants.{Dtmf, MfR1, MfR2Forward, MfR2Backward}
 use Rattle.kinds.specs.declared.digit.Digit.{Digit}
+
+-- ---- a type and its number
+
+number_back : (s : System) → system_of (number_of s) ≡ Some s
+number_back Dtmf = refl
+number_back MfR1 = refl
+number_back MfR2Forward = refl
+number_back MfR2Backward = refl
+
+number_low : (s : System) → number_of s ≤ 3
+number_low Dtmf = omega arith
+number_low MfR1 = omega arith
+number_low MfR2Forward = omega arith
+number_low MfR2Backward = omega arith
+
+pub system_low : (n : ℕ) (s : System) → system_of n ≡ Some s → number_of s ≡ n
+system_low n s e = grind (arith, nat_tests)
+
+same_system : (s t : System) → number_of s ≡ number_of t → s ≡ t
+same_system s t e = let f : Some s ≡ Some t = sym (number_back s) ∙ ap system_of e ∙ number_back t in cc
+
+-- ---- a digit and its parts
 
 -- two digits of the same parts are one
 same_parts : (d e : Digit) → d.level ≡ e.level → d.system ≡ e.system → d.code ≡ e.code → d ≡ e
@@ -21,41 +50,50 @@ same_parts d e p q r = λ i. record {
   system = q i;
   code = r i;
   low = is_prop→PathP (λ j. nat_lt (p j) 32 ≡ true) (λ j. hlevel props) d.low e.low i;
-  known = is_prop→PathP (λ j. is_code (q j) (r j) ≡ true) (λ j. hlevel props) d.known e.known i;
+  known = is_prop→PathP (λ j. is_code (number_of (q j)) (r j) ≡ true) (λ j. hlevel props) d.known e.known i;
 }
 
-by_is : (d : Digit) (x y : Bool) (p : ltb d.level 32 ≡ x) (q : is_code d.system d.code ≡ y) → digit_by d.level d.system d.code x y p q ≡ Some d
+by_is : (d : Digit) (x y : Bool) (p : ltb d.level 32 ≡ x) (q : is_code (number_of d.system) d.code ≡ y) → digit_by d.level d.system d.code x y p q ≡ Some d
 by_is d true true p q = ap Some (same_parts _ d refl refl refl)
 by_is d true false p q = absurd (both_ways _ q d.known)
 by_is d false y p q = absurd (both_ways _ p d.low)
 
 -- a digit is the digit of its parts
-pub digit_is : (d : Digit) → digit d.level d.system d.code ≡ Some d
+pub digit_is : (d : Digit) → digit_in d.level d.system d.code ≡ Some d
 digit_is d = by_is d _ _ refl refl
 
-by_parts : (l t c : ℕ) (x y : Bool) (p : ltb l 32 ≡ x) (q : is_code t c ≡ y) (d : Digit) → digit_by l t c x y p q ≡ Some d → (d.level ≡ l) × (d.system ≡ t) × (d.code ≡ c)
+by_parts : (l : ℕ) (t : System) (c : ℕ) (x y : Bool) (p : ltb l 32 ≡ x) (q : is_code (number_of t) c ≡ y) (d : Digit) → digit_by l t c x y p q ≡ Some d → (d.level ≡ l) × (d.system ≡ t) × (d.code ≡ c)
 by_parts l t c true true p q d e = grind arith
 by_parts l t c true false p q d e = grind arith
 by_parts l t c false y p q d e = grind arith
 
-parts_are : (l t c : ℕ) (d : Digit) → digit l t c ≡ Some d → (d.level ≡ l) × (d.system ≡ t) × (d.code ≡ c)
-parts_are l t c d e = by_parts l t c _ _ refl refl d e
+parts_in : (l : ℕ) (o : Option System) (c : ℕ) (d : Digit) → option_and_then (λ s. digit_in l s c) o ≡ Some d → (d.level ≡ l) × (o ≡ Some d.system) × (d.code ≡ c)
+parts_in l None c d e = grind arith
+parts_in l (Some s) c d e = let p = by_parts l s c _ _ refl refl d e in (p.0, ap Some (sym p.1), p.2)
+
+parts_are : (l t c : ℕ) (d : Digit) → digit l t c ≡ Some d → (d.level ≡ l) × (number_of d.system ≡ t) × (d.code ≡ c)
+parts_are l t c d e = let p = parts_in l (system_of t) c d e in (p.0, system_low t d.system p.1, p.2)
 
 code_facts : (t c : ℕ) → is_code t c ≡ true → (t ≤ 3) × (c < 32)
 code_facts t c e = grind (arith, nat_tests)
 
-octet_low : (d : Digit) → d.system * 32 + d.code < 256
-octet_low d = omega (arith, code_facts d.system d.code d.known)
+octet_low : (d : Digit) → number_of d.system * 32 + d.code < 256
+octet_low d = omega (arith, code_facts (number_of d.system) d.code d.known)
 
-back : (d : Digit) → read_octets d.level (d.system * 32 + d.code) ≡ Ok d
+back : (d : Digit) → read_octets d.level (number_of d.system * 32 + d.code) ≡ Ok d
 back d =
-    let k = code_facts d.system d.code d.known in
-    let t : (d.system * 32 + d.code) / 32 ≡ d.system = omega arith in
-    let c : (d.system * 32 + d.code) % 32 ≡ d.code = omega arith in
-    rw (t, c, digit_is d, d.low, le-leb d.system 3 k.0)
+    let k = code_facts (number_of d.system) d.code d.known in
+    let t : (number_of d.system * 32 + d.code) / 32 ≡ number_of d.system = omega arith in
+    let c : (number_of d.system * 32 + d.code) % 32 ≡ d.code = omega arith in
+    rw (t, c, number_back d.system, digit_is d, d.low, le-leb (number_of d.system) 3 k.0)
 
-forth : (a b : ℕ) (d : Digit) → read_octets a b ≡ Ok d → (d.level ≡ a) × (d.system * 32 + d.code ≡ b)
-forth a b d e = grind (arith, nat_tests, parts_are a (b / 32) (b % 32) d)
+read_by : (a b : ℕ) (o : Option Digit) (d : Digit) → asked {X = ℕ} ((nat_lt a 32, 1) ∷ (nat_le b 3, 2) ∷ []) (λ c. Err c) (ok_or o 3) ≡ Ok d → o ≡ Some d
+read_by a b o d e = grind (arith, nat_tests)
+
+forth : (a b : ℕ) (d : Digit) → read_octets a b ≡ Ok d → (d.level ≡ a) × (number_of d.system * 32 + d.code ≡ b)
+forth a b d e =
+    let p = parts_are a (b / 32) (b % 32) d (read_by a (b / 32) (digit a (b / 32) (b % 32)) d e) in
+    (p.0, omega (arith, p.1, p.2))
 
 two : (o : List ℕ) → length o ≡ 2 → o ≡ slice_index o 0 ∷ slice_index o 1 ∷ []
 two [] e = grind arith
@@ -63,7 +101,7 @@ two (x ∷ []) e = grind arith
 two (x ∷ y ∷ []) e = refl
 two (x ∷ y ∷ z ∷ zs) e = absurd (omega arith)
 
-body_is : (o : List ℕ) (d : Digit) → length o ≡ 2 → read_octets (slice_index o 0) (slice_index o 1) ≡ Ok d → d.level ∷ (d.system * 32 + d.code) ∷ [] ≡ o
+body_is : (o : List ℕ) (d : Digit) → length o ≡ 2 → read_octets (slice_index o 0) (slice_index o 1) ≡ Ok d → d.level ∷ (number_of d.system * 32 + d.code) ∷ [] ≡ o
 body_is o d n e = let f = forth (slice_index o 0) (slice_index o 1) d e in let t = two o n in cc
 
 pub cause : (a b c : ℕ) → read_octets a b ≡ Err c → one_of (1 ∷ 2 ∷ 3 ∷ []) c ≡ true
@@ -71,17 +109,70 @@ cause a b c e = grind (arith, nat_tests)
 
 alike : (d e : Digit) → same_digit d e ≡ true → d ≡ e
 alike d e h =
-    let parts : (d.level ≡ e.level) × (d.system ≡ e.system) × (d.code ≡ e.code) = grind (arith, nat_tests) in
-    same_parts d e parts.0 parts.1 parts.2
+    let parts : (d.level ≡ e.level) × (number_of d.system ≡ number_of e.system) × (d.code ≡ e.code) = grind (arith, nat_tests) in
+    same_parts d e parts.0 (same_system d.system e.system parts.1) parts.2
 
 itself : (d : Digit) → same_digit d d ≡ true
-itself d = rw (eq-eqb d.level d.level refl, eq-eqb d.system d.system refl, eq-eqb d.code d.code refl)
+itself d = rw (eq-eqb d.level d.level refl, eq-eqb (number_of d.system) (number_of d.system) refl, eq-eqb d.code d.code refl)
 
--- what making a digit answers, where there is one
-pub made_is : (t c lev : ℕ) (l : ℤ) (d : Digit) → nat_le t 3 ≡ true → lev ≡ level_of l → Some d ≡ digit lev t c → Ok d ≡ make t c l
-made_is t c lev l d low e is =
-    sym (ap (λ b. cond b (ok_or (digit (level_of l) t c) (Kind DigitCode)) (Err (Kind DigitType))) low
-    ∙ ap (λ n. ok_or (digit n t c) (Kind DigitCode)) (sym e) ∙ ap (λ o. ok_or o (Kind DigitCode)) (sym is))
+-- `==` of the program
+abbrev equal : Digit → Digit → Bool
+equal d e = eqb d.level e.level && (sameb the_type d.system e.system && eqb d.code e.code)
+
+tag_is : (s : System) → tag_of the_type s ≡ number_of s
+tag_is Dtmf = refl
+tag_is MfR1 = refl
+tag_is MfR2Forward = refl
+tag_is MfR2Backward = refl
+
+unlike_at : (d e : Digit) → equal d e ≡ true → d ≡ e
+unlike_at d e h =
+    let p = and_parts (eqb d.level e.level) (sameb the_type d.system e.system && eqb d.code e.code) h in
+    let q = and_parts (sameb the_type d.system e.system) (eqb d.code e.code) p.1 in
+    let s : number_of d.system ≡ number_of e.system = sym (tag_is d.system) ∙ eqb-true _ _ q.0 ∙ tag_is e.system in
+    same_parts d e (eqb-true _ _ p.0) (same_system d.system e.system s) (eqb-true _ _ q.1)
+
+equal_self : (d : Digit) → equal d d ≡ true
+equal_self d = rw (eq-eqb d.level d.level refl, eq-eqb (tag_of the_type d.system) (tag_of the_type d.system) refl, eq-eqb d.code d.code refl)
+
+pub digits_compare : (d e : Digit) → (equal d e ≡ true) ↔ (d ≡ e)
+digits_compare d e = (unlike_at d e, λ h. subst (λ x. equal d x ≡ true) h (equal_self d))
+
+-- ---- what is answered once a type's number was tried
+
+type_was : (t : ℕ) (s : System) (x : KindFault) → Ok s ≡ ok_or (system_of t) x → system_of t ≡ Some s
+type_was t s x e = by (system_of t) e
+  where
+    by : (o : Option System) → Ok s ≡ ok_or o x → o ≡ Some s
+    by o e = grind arith
+
+pub made_is : (t c : ℕ) (l : ℤ) (s : System) (x : KindFault) → Ok s ≡ ok_or (system_of t) x → ok_or (digit_in (level_of l) s c) (Kind DigitCode) ≡ make t c l
+made_is t c l s x is =
+    let e = type_was t s x is in
+    let n = number_low s in
+    let k = system_low t s e in
+    sym (ap (λ b. cond b (ok_or (digit (level_of l) t c) (Kind DigitCode)) (Err (Kind DigitType))) (le-leb t 3 (omega arith))
+    ∙ ap (λ o. ok_or (option_and_then (λ u. digit_in (level_of l) u c) o) (Kind DigitCode)) e)
+
+told : (o : Option Digit) → ok_or o (Kind (Body 3)) ≡ or_cause (ok_or o 3)
+told None = refl
+told (Some d) = refl
+
+pub read_is : (a b : ℕ) (s : System) (x : KindFault) → nat_lt a 32 ≡ true → Ok s ≡ ok_or (system_of (b / 32)) x → ok_or (digit_in a s (b % 32)) (Kind (Body 3)) ≡ or_cause (read_octets a b)
+read_is a b s x low is =
+    let e = type_was (b / 32) s x is in
+    let n = number_low s in
+    let k = system_low (b / 32) s e in
+    let t = le-leb (b / 32) 3 (omega arith) in
+    told (digit_in a s (b % 32))
+    ∙ sym (ap or_cause (ap (λ l. cond l (cond (nat_le (b / 32) 3) (ok_or (digit a (b / 32) (b % 32)) 3) (Err 2)) (Err 1)) low
+    ∙ ap (λ l. cond l (ok_or (digit a (b / 32) (b % 32)) 3) (Err 2)) t
+    ∙ ap (λ o. ok_or (option_and_then (λ u. digit_in a u (b % 32)) o) 3) e))
+
+-- the same of the code of a key
+pub key_made : (o : Option ℕ) (c : ℕ) (l : ℤ) (x : KindFault) → ok_or o x ≡ Ok c → make 0 c l ≡ make_by o l
+key_made (Some k) c l x e = let i : k ≡ c = cc in ap (λ n. make 0 n l) (sym i)
+key_made None c l x e = let z : ◌≡◌ {A = ℕ} 0 1 = cc in absurd (omega arith)
 
 pub digits_lawful : Lawful digits
 digits_lawful = record {

@@ -1,24 +1,32 @@
 -- Dialled digits: a level and a code of a digit type, in two octets. Assumes nothing.
 use Rattle.std.specs.Prelude.{◌≡◌, ℕ, suc, ◌+◌, ◌*◌, ◌/◌, ◌%◌, min, Bool, true, false, cond, ◌&&◌, [], ◌∷◌, ℤ, pos, negsuc, Some, None, Err, Option, Result, ◌==◌, nat_le, nat_lt, slice_index, refl}
-use Rattle.std.specs.Option.{ok_or}
+use Rattle.std.specs.Option.{ok_or, option_and_then}
 use Rattle.refusal.specs.Questions.{asked}
 use Rattle.refusal.specs.declared.Refusal.{Refusal}
 use Rattle.refusal.specs.declared.Refusal.TheVariants.{Kind}
 use Rattle.refusal.specs.declared.KindFault.TheVariants.{DigitType, DigitCode}
 use Rattle.type3.specs.Kinds.{Meaning}
+use Rattle.kinds.specs.Systems.{number_of, system_of}
 use Rattle.kinds.specs.Codes.{is_code}
 use Rattle.kinds.specs.Keys.{key_code}
+use Rattle.kinds.specs.declared.system.System.{System}
 use Rattle.kinds.specs.declared.digit.Digit.{Digit}
+use Rattle.kinds.specs.declared.digits.NoDigit.{NoDigit}
+use Rattle.kinds.specs.declared.digits.NoDigit.TheVariants as why
 
 -- The digit of these parts, where there is one: the level is below 32, and the type has the code. (The tests come with what
 -- they test, since a digit holds the proofs.)
-abbrev pub digit_by : (l t c : ℕ) (low known : Bool) → nat_lt l 32 ≡ low → is_code t c ≡ known → Option Digit
+abbrev pub digit_by : (l : ℕ) (t : System) (c : ℕ) (low known : Bool) → nat_lt l 32 ≡ low → is_code (number_of t) c ≡ known → Option Digit
 digit_by l t c true true p q = Some (record { level = l; system = t; code = c; low = p; known = q })
 digit_by l t c true false p q = None
 digit_by l t c false known p q = None
 
+abbrev pub digit_in : ℕ → System → ℕ → Option Digit
+digit_in l t c = digit_by l t c (nat_lt l 32) (is_code (number_of t) c) refl refl
+
+-- the same, of the number of a type
 abbrev pub digit : ℕ → ℕ → ℕ → Option Digit
-digit l t c = digit_by l t c (nat_lt l 32) (is_code t c) refl refl
+digit l t c = option_and_then (λ s. digit_in l s c) (system_of t)
 
 -- ---- making a digit
 
@@ -44,6 +52,11 @@ make_key key l = make_by (key_code key) l
 
 -- ---- the kind
 
+abbrev pub cause_number : NoDigit → ℕ
+cause_number why.Level = 1
+cause_number why.System = 2
+cause_number why.Code = 3
+
 -- Causes: 1 an upper bit of the level's octet is set, 2 the type is above 3, 3 the code is not of its type.
 abbrev pub read_octets : ℕ → ℕ → Result Digit ℕ
 read_octets a b =
@@ -52,13 +65,13 @@ read_octets a b =
     (ok_or (digit a (b / 32) (b % 32)) 3)
 
 abbrev pub same_digit : Digit → Digit → Bool
-same_digit d e = d.level == e.level && d.system == e.system && d.code == e.code
+same_digit d e = d.level == e.level && number_of d.system == number_of e.system && d.code == e.code
 
 abbrev pub digits : Meaning Digit
 digits = record {
   message_type = 2;
   len = 2;
-  body = λ d. d.level ∷ (d.system * 32 + d.code) ∷ [];
+  body = λ d. d.level ∷ (number_of d.system * 32 + d.code) ∷ [];
   gap = λ d. cond (d.code == 31) None (Some 500);
   read = λ o. read_octets (slice_index o 0) (slice_index o 1);
   causes = 1 ∷ 2 ∷ 3 ∷ [];

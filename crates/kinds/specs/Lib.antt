@@ -1,3 +1,4 @@
+pub mod Systems
 pub mod Codes
 pub mod Keys
 pub mod Digits

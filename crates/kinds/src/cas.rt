@@ -1,12 +1,12 @@
 // Channel-associated signalling as a kind of message: four bits in one octet.
 ghost use Rattle.std.specs.Prelude.{◌≡◌};
 ghost use Rattle.kinds.specs.Cas.{cas, octet};
-ghost use Rattle.kinds.specs.CasLaws.{cas_lawful};
+ghost use Rattle.kinds.specs.CasLaws.{cas_lawful, cas_compare};
 
 use refusal::{KindFault, Refusal};
 use type3::kind::Kind;
 
-#[derive(Clone, Copy)]
+#[derive(Clone, Copy, Debug, PartialEq, Eq)]
 pub struct CasBits {
     pub a: bool,
     pub b: bool,
@@ -36,6 +36,8 @@ impl Kind for Cas {
 
     ghost lawful = { cas_lawful };
 
+    ghost compares = { cas_compare };
+
     fn message_type() -> u8 {
         MESSAGE_TYPE
     }
@@ -63,9 +65,5 @@ impl Kind for Cas {
             c: bits / 2 % 2 == 1,
             d: bits % 2 == 1,
         })
-    }
-
-    fn same(one: CasBits, other: CasBits) -> bool {
-        one.octet() == other.octet()
     }
 }

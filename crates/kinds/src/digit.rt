@@ -1,29 +1,23 @@
 // A dialled digit: its level, and a code of a digit type.
 ghost use Rattle.std.specs.Prelude.{◌≡◌, true, nat_lt};
 ghost use Rattle.kinds.specs.Codes.{is_code};
+ghost use Rattle.kinds.specs.Systems.{number_of};
+
+use crate::system::System;
 
 pub mod make;
-
-// The digit types: the signalling system whose tone it is.
-pub const DTMF: u8 = 0;
-
-pub const MF_R1: u8 = 1;
-
-pub const MF_R2_FORWARD: u8 = 2;
-
-pub const MF_R2_BACKWARD: u8 = 3;
 
 // The code that ends a tone, of every type.
 pub const TONE_OFF: u8 = 31;
 
 // The level is in dB below 1 mW, 0 to 31. No digit exists whose code its type lacks.
-#[derive(Clone, Copy)]
+#[derive(Clone, Copy, Debug, PartialEq, Eq)]
 pub struct Digit {
     level: u8,
-    system: u8,
+    system: System,
     code: u8,
     ghost low: { nat_lt level 32 ≡ true },
-    ghost known: { is_code system code ≡ true },
+    ghost known: { is_code (number_of system) code ≡ true },
 }
 
 impl Digit {
@@ -33,7 +27,7 @@ impl Digit {
         self.level
     }
 
-    pub fn system(self) -> u8
+    pub fn system(self) -> System
         ensures { result ≡ self.system }
     {
         self.system
@@ -46,15 +40,25 @@ impl Digit {
     }
 }
 
-// Whether the digit type has the code.
+// Whether the digit type of this number has the code.
 pub fn has_code(system: u8, code: u8) -> bool
     ensures { result ≡ is_code system code }
 {
+    match System::try_from(system) {
+        Ok(system) => has(system, code),
+        Err(_) => false,
+    }
+}
+
+// Whether the digit type has the code.
+pub(crate) fn has(system: System, code: u8) -> bool
+    ensures { result ≡ is_code (number_of system) code }
+{
     match system {
-        DTMF if code <= 15 => true,
-        MF_R1 if code <= 14 => true,
-        MF_R2_FORWARD | MF_R2_BACKWARD if 1 <= code && code <= 15 => true,
-        DTMF..=MF_R2_BACKWARD if code == TONE_OFF => true,
-        _ => false,
+        System::Dtmf => code <= 15 || code == TONE_OFF,
+        System::MfR1 => code <= 14 || code == TONE_OFF,
+        System::MfR2Forward | System::MfR2Backward => {
+            1 <= code && code <= 15 || code == TONE_OFF
+        }
     }
 }

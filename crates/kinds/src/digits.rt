@@ -1,15 +1,42 @@
 // Dialled digits as a kind of message: two octets, the level and then digit type × 32 + code.
 ghost use Rattle.std.specs.Prelude.{◌≡◌};
-ghost use Rattle.kinds.specs.Digits.{digits};
-ghost use Rattle.kinds.specs.DigitLaws.{digits_lawful};
+ghost use Rattle.refusal.specs.declared.Refusal.TheVariants.{Kind as OfKind};
+ghost use Rattle.refusal.specs.declared.KindFault.TheVariants.{Body};
+ghost use Rattle.kinds.specs.Digits.{digits, cause_number};
+ghost use Rattle.kinds.specs.DigitLaws.{digits_lawful, digits_compare};
 
-use crate::digit::{Digit, MF_R2_BACKWARD, TONE_OFF};
+use crate::digit::{Digit, TONE_OFF};
+use crate::system::System;
 use refusal::{KindFault, Refusal};
 use type3::kind::Kind;
 
 const MESSAGE_TYPE: u8 = 2;
 
 const BODY_LEN: usize = 2;
+
+// Why two octets are no digit.
+#[derive(Clone, Copy, Debug, PartialEq, Eq)]
+pub enum NoDigit {
+    // an upper bit of the level's octet is set
+    Level,
+    // the digit type is above 3
+    System,
+    // the code is not of its type
+    Code,
+}
+
+impl From<NoDigit> for Refusal {
+    ghost from_gives = { λ why refusal. refusal ≡ OfKind (Body (cause_number why)) };
+
+    fn from(why: NoDigit) -> Refusal {
+        let cause = match why {
+            NoDigit::Level => 1,
+            NoDigit::System => 2,
+            NoDigit::Code => 3,
+        };
+        KindFault::Body(cause).into()
+    }
+}
 
 pub struct Digits;
 
@@ -20,6 +47,8 @@ impl Kind for Digits {
 
     ghost lawful = { digits_lawful };
 
+    ghost compares = { digits_compare };
+
     fn message_type() -> u8 {
         MESSAGE_TYPE
     }
@@ -29,7 +58,10 @@ impl Kind for Digits {
     }
 
     fn write_body(message: Digit, out: &mut [u8]) {
-        out.copy_from_slice(&[message.level(), message.system() * 32 + message.code()]);
+        out.copy_from_slice(&[
+            message.level(),
+            u8::from(message.system()) * 32 + message.code(),
+        ]);
     }
 
     fn gap(message: Digit) -> Option<u32> {
@@ -42,21 +74,10 @@ impl Kind for Digits {
 
     fn read_body(octets: &[u8]) -> Result<Digit, Refusal> {
         let level = octets[0];
-        let system = octets[1] / 32;
-        let code = octets[1] % 32;
         if level >= 32 {
-            return Err(Refusal::Kind(KindFault::Body(1)));
+            return Err(NoDigit::Level.into());
         }
-        if system > MF_R2_BACKWARD {
-            return Err(Refusal::Kind(KindFault::Body(2)));
-        }
-        match Digit::of_parts(level, system, code) {
-            Some(digit) => Ok(digit),
-            None => Err(Refusal::Kind(KindFault::Body(3))),
-        }
-    }
-
-    fn same(one: Digit, other: Digit) -> bool {
-        one.level() == other.level() && one.system() == other.system() && one.code() == other.code()
+        let system = System::try_from(octets[1] / 32).map_err(|_| NoDigit::System)?;
+        Digit::of_parts(level, system, octets[1] % 32).ok_or(NoDigit::Code.into())
     }
 }

@@ -6,3 +6,4 @@ pub mod digit;
 pub mod digits;
 pub mod export;
 pub mod keys;
+pub mod system;

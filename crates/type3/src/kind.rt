@@ -1,5 +1,5 @@
 // A kind of message: what its messages are, and how they stand in octets.
-ghost use Rattle.std.specs.Prelude.{◌≡◌, length};
+ghost use Rattle.std.specs.Prelude.{◌≡◌, ◌↔◌, true, length};
 ghost use Rattle.type3.specs.Kinds.{Meaning, Lawful, or_cause};
 
 use refusal::Refusal;
@@ -34,6 +34,6 @@ pub trait Kind {
 
     ghost lawful: { Lawful model };
 
-    // `==` of messages is the sameness that the model means.
-    ghost compares: { (one other : Self.Message) → Self.Message.eq one other ≡ model.same one other };
+    // `==` tells messages apart.
+    ghost compares: { (one other : Self.Message) → (Self.Message.eq one other ≡ true) ↔ (one ≡ other) };
 }

@@ -1,9 +1,10 @@
 // Making a digit of its parts.
 ghost use Rattle.std.specs.Prelude.{◌≡◌};
-ghost use Rattle.kinds.specs.Digits.{digit, level_of, make, make_key};
+ghost use Rattle.kinds.specs.Digits.{digit_in, level_of, make, make_key};
 
-use super::{DTMF, Digit, has_code};
+use super::{Digit, has};
 use crate::keys::key_code;
+use crate::system::System;
 use refusal::{KindFault, Refusal};
 
 impl Digit {
@@ -11,30 +12,23 @@ impl Digit {
     pub fn new(system: u8, code: u8, dbm0: i8) -> Result<Digit, Refusal>
         ensures { result ≡ make system code dbm0 }
     {
-        if system > 3 {
-            return Err(Refusal::Kind(KindFault::DigitType));
-        }
-        match Digit::of_parts(level_of(dbm0), system, code) {
-            Some(digit) => Ok(digit),
-            None => Err(Refusal::Kind(KindFault::DigitCode)),
-        }
+        let system = System::try_from(system)?;
+        Digit::of_parts(level_of(dbm0), system, code).ok_or(KindFault::DigitCode.into())
     }
 
     // The DTMF digit of a key. A character that names no key is a code that DTMF lacks.
     pub fn of_key(key: char, dbm0: i8) -> Result<Digit, Refusal>
         ensures { result ≡ make_key key dbm0 }
     {
-        match key_code(key) {
-            Some(code) => Digit::new(DTMF, code, dbm0),
-            None => Err(Refusal::Kind(KindFault::DigitCode)),
-        }
+        let code = key_code(key).ok_or(KindFault::DigitCode)?;
+        Digit::new(System::Dtmf.into(), code, dbm0)
     }
 
     // The digit of these parts, if there is one.
-    pub(crate) fn of_parts(level: u8, system: u8, code: u8) -> Option<Digit>
-        ensures { result ≡ digit level system code }
+    pub(crate) fn of_parts(level: u8, system: System, code: u8) -> Option<Digit>
+        ensures { result ≡ digit_in level system code }
     {
-        if level < 32 && has_code(system, code) {
+        if level < 32 && has(system, code) {
             Some(Digit {
                 level,
                 system,

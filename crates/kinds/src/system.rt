@@ -1,0 +1,44 @@
+// The digit types: the signalling system whose tone a digit is.
+ghost use Rattle.std.specs.Prelude.{◌≡◌};
+ghost use Rattle.std.specs.Option.{ok_or};
+ghost use Rattle.refusal.specs.declared.KindFault.TheVariants.{DigitType};
+ghost use Rattle.kinds.specs.Systems.{number_of, system_of};
+
+use refusal::KindFault;
+
+#[derive(Clone, Copy, Debug, PartialEq, Eq)]
+pub enum System {
+    Dtmf,
+    MfR1,
+    MfR2Forward,
+    MfR2Backward,
+}
+
+impl From<System> for u8 {
+    ghost from_gives = { λ system number. number ≡ number_of system };
+
+    fn from(system: System) -> u8 {
+        match system {
+            System::Dtmf => 0,
+            System::MfR1 => 1,
+            System::MfR2Forward => 2,
+            System::MfR2Backward => 3,
+        }
+    }
+}
+
+impl TryFrom<u8> for System {
+    type Error = KindFault;
+
+    ghost try_from_gives = { λ number made. made ≡ ok_or (system_of number) DigitType };
+
+    fn try_from(number: u8) -> Result<System, KindFault> {
+        match number {
+            0 => Ok(System::Dtmf),
+            1 => Ok(System::MfR1),
+            2 => Ok(System::MfR2Forward),
+            3 => Ok(System::MfR2Backward),
+            _ => Err(KindFault::DigitType),
+        }
+    }
+}
