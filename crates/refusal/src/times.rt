@@ -1,5 +1,5 @@
 // Times: whole milliseconds from 0.
-ghost use Rattle.std.specs.Prelude.{◌≡◌, true, if◌then◌else◌, Some, None};
+ghost use Rattle.std.specs.Prelude.{◌≡◌, ◌-◌, true, if◌then◌else◌, Some, None};
 ghost use Rattle.refusal.specs.Questions.{is_time};
 
 use std::marker::Model;
@@ -45,5 +45,14 @@ impl Time {
         ensures time { is_time result ≡ true }
     {
         self.ms
+    }
+
+    // How long it is after an earlier time; nothing where that is not earlier.
+    pub fn since(self, earlier: u64) -> Time
+        ensures { result ≡ self - earlier }
+    {
+        Time {
+            ms: self.ms.saturating_sub(earlier),
+        }
     }
 }
