@@ -9,8 +9,9 @@ use Rattle.type3.specs.Octets.{written, read}
 use Rattle.type3.specs.declared.payload.Payload.{Payload}
 use Rattle.type3.proofs.RoundTrip.{length_written, read_written}
 use Rattle.sending.specs.declared.event.Event.{Event}
-use Rattle.sending.specs.Sending.{Stream, Due, due_of, due_by, said_by, octets_of, sent, due_questions, due}
-use Rattle.sending.specs.Seen.{counted, put}
+use Rattle.sending.specs.Sending.{Stream, due_of, due_by, said_by, octets_of, sent, due_questions, due}
+use Rattle.sending.specs.declared.event.Packet.{Packet}
+use Rattle.sending.specs.Answered.{counted, put}
 use Rattle.kinds.specs.declared.digit.Digit.{Digit}
 use Rattle.kinds.specs.Digits.{digits}
 use Rattle.kinds.specs.DigitLaws.{digits_lawful}
@@ -19,13 +20,13 @@ use Rattle.dial.specs.Heard.{says}
 never : {X : Type 0} → ◌≡◌ {A = ℕ} 0 1 → X
 never h = absurd (let k : ⊥ = omega arith in k)
 
-pub refused_says : (d : Option (Due Digit)) (f : Refusal) (r : Result (Option (List ℕ)) Refusal) → Err f ≡ counted r → Err f ≡ says d r
+pub refused_says : (d : Option (Packet Digit)) (f : Refusal) (r : Result (Option (List ℕ)) Refusal) → Err f ≡ counted r → Err f ≡ says d r
 refused_says d f (Ok (Some o)) e = never (let z : ◌≡◌ {A = ℕ} 0 1 = cc in z)
 refused_says d f (Ok None) e = never (let z : ◌≡◌ {A = ℕ} 0 1 = cc in z)
 refused_says d f (Err g) e = let i : f ≡ g = cc in ap (λ x. Err x) i
 
 -- a packet that is due has a redundancy
-low : (s : Stream Digit) (t : ℕ) (o : Option (Event Digit)) (d : Due Digit) → due_by s t o ≡ Some d → d.redundancy < 4
+low : (s : Stream Digit) (t : ℕ) (o : Option (Event Digit)) (d : Packet Digit) → due_by s t o ≡ Some d → d.redundancy < 4
 low s t None d e = never (let z : ◌≡◌ {A = ℕ} 0 1 = cc in z)
 low s t (Some x) d e = grind (arith, nat_tests)
 
@@ -35,14 +36,14 @@ module _ (s : Stream Digit) (t n : ℕ) (buffer after : List ℕ) (six : length 
   room = length buffer
 
   record Sent : Type 0 where
-    pub packet : Due Digit
+    pub packet : Packet Digit
     pub was_due : due_of s t ≡ Some packet
     pub answer : (due digits s t (length buffer)).0 ≡ Ok (Some (octets_of digits packet))
 
   was_sent : Sent
   was_sent = by (first_no (due_questions digits s t room)) (due_of s t) refl refl value
     where
-      by : (o : Option Refusal) (x : Option (Due Digit)) → first_no (due_questions digits s t (length buffer)) ≡ o → due_of s t ≡ x
+      by : (o : Option Refusal) (x : Option (Packet Digit)) → first_no (due_questions digits s t (length buffer)) ≡ o → due_of s t ≡ x
           → Ok (Some n) ≡ counted (unless o s (sent digits s t x)).0 → Sent
       by (Some f) x e g h = never (let z : ◌≡◌ {A = ℕ} 0 1 = cc in z)
       by None None e g h = never (let z : ◌≡◌ {A = ℕ} 0 1 = cc in z)
@@ -52,7 +53,7 @@ module _ (s : Stream Digit) (t n : ℕ) (buffer after : List ℕ) (six : length 
         answer = ap (λ o. (unless o s (sent digits s t (due_of s t))).0) e ∙ ap (λ x. (sent digits s t x).0) g;
       }
 
-  abbrev d : Due Digit
+  abbrev d : Packet Digit
   d = was_sent.packet
 
   -- the buffer holds the packet and nothing else

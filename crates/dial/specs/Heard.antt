@@ -3,7 +3,8 @@ use Rattle.std.specs.Prelude.{ℕ, List, Ok, Err, Option, Result}
 use Rattle.std.specs.Option.{option_map}
 use Rattle.refusal.specs.declared.Refusal.{Refusal}
 use Rattle.type3.specs.declared.payload.Payload.{Payload}
-use Rattle.sending.specs.Sending.{Due, said_by}
+use Rattle.sending.specs.Sending.{said_by}
+use Rattle.sending.specs.declared.event.Packet.{Packet}
 use Rattle.kinds.specs.declared.digit.Digit.{Digit}
 
 abbrev pub heard : Result (Option (Payload Digit)) Refusal → Result (Option (Payload Digit)) Refusal
@@ -11,6 +12,6 @@ heard (Ok p) = Ok (option_map contents p)
 heard (Err f) = Err f
 
 -- the packet that is due, unless the call is refused
-abbrev pub says : Option (Due Digit) → Result (Option (List ℕ)) Refusal → Result (Option (Payload Digit)) Refusal
+abbrev pub says : Option (Packet Digit) → Result (Option (List ℕ)) Refusal → Result (Option (Payload Digit)) Refusal
 says d (Ok o) = Ok (option_map said_by d)
 says d (Err f) = Err f

@@ -8,7 +8,8 @@ use Rattle.type3.specs.declared.payload.Payload.{Payload}
 use Rattle.profile.specs.declared.entry.Entry.{Entry}
 use Rattle.profile.specs.Questions.{refusal}
 use Rattle.profile.specs.Labels.{find, interval_of, span_of}
-use Rattle.sending.specs.Sending.{Due, said_by, octets_of}
+use Rattle.sending.specs.Sending.{said_by, octets_of}
+use Rattle.sending.specs.declared.event.Packet.{Packet}
 use Rattle.placing.specs.declared.stream.Moved.{Moved}
 use Rattle.placing.specs.declared.stream.Told.{Told}
 use Rattle.placing.specs.declared.stream.Told.TheVariants.{News, Repeat, Late}
@@ -59,7 +60,7 @@ module _ {P Q : Type 0} (p : Meaning P) (q : Meaning Q) (es : List Entry) (lp : 
   module _ (rule : carried h (it None) ≡ true) (ages : aged es h (it None) ≡ true) where
     -- ---- of a packet of a message
 
-    module _ (w : Which) (d : Due (Of P Q w)) (few : d.redundancy < 4) (in_time : d.time ≤ 1099511627775) where
+    module _ (w : Which) (d : Packet (Of P Q w)) (few : d.redundancy < 4) (in_time : d.time ≤ 1099511627775) where
       abbrev k : Meaning (Of P Q w)
       k = meaning P Q p q w
 

@@ -15,7 +15,7 @@ pub fn is_time(ms: u64) -> bool
 }
 
 // A number of milliseconds that is a time. In contracts it is that number.
-#[derive(Clone, Copy)]
+#[derive(Clone, Copy, Debug, PartialEq, Eq, PartialOrd, Ord)]
 pub struct Time {
     ms: u64,
 }

@@ -5,7 +5,8 @@ use Rattle.std.proofs.Common.{◌≡◌, ℕ, ◌<◌, ◌≤◌, Bool, true, fa
 use Rattle.std.proofs.lemmas.Bool.{and_parts, and_cases, and_left, and_right, cases_lt}
 use Rattle.type3.specs.Kinds.{Meaning}
 use Rattle.sending.specs.declared.event.Event.{Event}
-use Rattle.sending.specs.Sending.{Stream, Due, later, later_than_event, due_of, after_packet}
+use Rattle.sending.specs.Sending.{Stream, later, later_than_event, due_of, after_packet}
+use Rattle.sending.specs.declared.event.Packet.{Packet}
 use Rattle.sending.specs.Runs.{Call, accepted, made, OfEvent, does, step}
 use Rattle.sending.proofs.Turns.{impossible, Current, free, each_call}
 use Rattle.sending.proofs.Kept.{Kept, due_is}
@@ -66,7 +67,7 @@ module _ {M : Type 0} where
 
     -- What is so of a call that makes a packet: it is of the latest event, not made for a time before that event's or past the
     -- range, and the time that it is made for is behind from then on.
-    pub record Making (u : Stream M) (call : ℕ) (d : Due M) : Type 0 where
+    pub record Making (u : Stream M) (call : ℕ) (d : Packet M) : Type 0 where
       pub from : Event M
       pub is : s.latest ≡ Some from
       pub of : OfEvent k from ts call d
@@ -74,7 +75,7 @@ module _ {M : Type 0} where
       pub in_time : d.time ≤ 1099511627775
       pub behind : Behind u d.time
 
-    packet_made : (t : ℕ) (d : Due M) → Current s.clock t → due_of s t ≡ Some d → Making (after_packet k s t d) t d
+    packet_made : (t : ℕ) (d : Packet M) → Current s.clock t → due_of s t ≡ Some d → Making (after_packet k s t d) t d
     packet_made t d on h = let o = due_is k s ts kept t d h in by o.0 o.1 o.2 (cases_lt (length ts) 3)
       where
         by : (e : Event M) → s.latest ≡ Some e → OfEvent k e ts t d → (length ts < 3) ⊎ (3 ≤ length ts) → Making (after_packet k s t d) t d
@@ -105,7 +106,7 @@ module _ {M : Type 0} where
                   (ap (λ b. later (cond b (Some t) s.refreshed) d.time) (eq-eqb d.redundancy 3 (omega arith)) ∙ le-ltb t d.time (omega arith));
             }
 
-    pub making : (c : Call M) (call : ℕ) (d : Due M) → does k s c ≡ made call d → Making (step k s c) call d
+    pub making : (c : Call M) (call : ℕ) (d : Packet M) → does k s c ≡ made call d → Making (step k s c) call d
     making c call d = each_call k s (λ x u. x ≡ made call d → Making u call d)
         (λ same. impossible (cc))
         (λ f on ok same. impossible (cc))

@@ -8,10 +8,11 @@ use Rattle.type3.specs.Octets.{write}
 use Rattle.type3.specs.declared.payload.Payload.{Payload}
 use Rattle.type3.proofs.Writes.{room_yes}
 use Rattle.type3.proofs.RoundTrip.{length_written}
-use Rattle.sending.specs.Sending.{Stream, Due, due_of, said_by, octets_of, after_packet, sent, due_questions, due}
-use Rattle.sending.specs.Seen.{counted, put}
+use Rattle.sending.specs.Sending.{Stream, due_of, said_by, octets_of, after_packet, sent, due_questions, due}
+use Rattle.sending.specs.declared.event.Packet.{Packet}
+use Rattle.sending.specs.Answered.{counted, put}
 
-module _ {M : Type 0} (k : Meaning M) (law : Lawful k) (s : Stream M) (t : ℕ) (out : List ℕ) (d : Due M)
+module _ {M : Type 0} (k : Meaning M) (law : Lawful k) (s : Stream M) (t : ℕ) (out : List ℕ) (d : Packet M)
     (asked : None ≡ first_no (due_questions k s t (length out))) (is_due : Some d ≡ due_of s t) where
   pub due_is : due k s t (length out) ≡ (Ok (Some (octets_of k d)), after_packet k s t d)
   due_is =

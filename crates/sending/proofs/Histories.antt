@@ -3,7 +3,8 @@ use Rattle.std.proofs.Common.{◌≡◌, ℕ, ◌<◌, ◌≤◌, cond, leb, Lis
 use borrow.Author.Tests.{lt-leb}
 use Rattle.type3.specs.Kinds.{Meaning}
 use Rattle.sending.specs.declared.event.Event.{Event}
-use Rattle.sending.specs.Sending.{Stream, Due, new_sender}
+use Rattle.sending.specs.Sending.{Stream, new_sender}
+use Rattle.sending.specs.declared.event.Packet.{Packet}
 use Rattle.sending.specs.Runs.{Call, Did, accepted, made, neither, does, step, history, latest_from, latest, since_from, since, had_from, had, OfEvent, SendsLawfully}
 use Rattle.sending.proofs.Turns.{impossible, each_call}
 use Rattle.sending.proofs.Kept.{Kept, kept_new, kept_on}
@@ -105,11 +106,11 @@ module _ {M : Type 0} where
     pub sends_lawfully : SendsLawfully k
     sends_lawfully cs = record { events_are_later = events; packets_are_of_the_latest_event = packets; packets_tell_what_was_had = tell }
       where
-        at_made : (before rest : List (Did M)) (call : ℕ) (d : Due M) → history k new_sender cs ≡ before ++ (made call d ∷ rest) →
+        at_made : (before rest : List (Did M)) (call : ℕ) (d : Packet M) → history k new_sender cs ≡ before ++ (made call d ∷ rest) →
             Reached new_sender [] before rest (made call d)
         at_made before rest call d h = reach new_sender [] (kept_new k) cs before rest (made call d) h
 
-        events : (b1 b2 rest : List (Did M)) (call : ℕ) (d : Due M) (e : Event M) →
+        events : (b1 b2 rest : List (Did M)) (call : ℕ) (d : Packet M) (e : Event M) →
             history k new_sender cs ≡ b1 ++ (made call d ∷ (b2 ++ (accepted e ∷ rest))) → d.time < e.time
         events b1 b2 rest call d e h =
             let r = at_made b1 (b2 ++ (accepted e ∷ rest)) call d h in
@@ -117,14 +118,14 @@ module _ {M : Type 0} where
             later_events (step k r.state r.call) (since_from (since b1) (does k r.state r.call ∷ [])) d.time
             (kept_on k r.state (since b1) r.kept r.call) m.behind r.calls b2 rest e (sym r.then)
 
-        packets : (before rest : List (Did M)) (call : ℕ) (d : Due M) → history k new_sender cs ≡ before ++ (made call d ∷ rest) →
+        packets : (before rest : List (Did M)) (call : ℕ) (d : Packet M) → history k new_sender cs ≡ before ++ (made call d ∷ rest) →
             (e : Event M) × (latest before ≡ Some e) × OfEvent k e (since before) call d
         packets before rest call d h =
             let r = at_made before rest call d h in
             let m = making k r.state (since before) r.kept r.call call d r.did in
             (m.from, sym r.event ∙ m.is, m.of)
 
-        tell : (before rest : List (Did M)) (call : ℕ) (d : Due M) → history k new_sender cs ≡ before ++ (made call d ∷ rest) →
+        tell : (before rest : List (Did M)) (call : ℕ) (d : Packet M) → history k new_sender cs ≡ before ++ (made call d ∷ rest) →
             had d.time (history k new_sender cs) ≡ Some d.message
         tell before rest call d h =
             let r = at_made before rest call d h in

@@ -3,7 +3,8 @@ use Rattle.std.proofs.Common.{◌≡◌, ℕ, ◌+◌, ◌*◌, ◌<◌, ◌≤�
 use Rattle.std.specs.Option.{option_map}
 use Rattle.type3.specs.Kinds.{Meaning}
 use Rattle.sending.specs.declared.event.Event.{Event}
-use Rattle.sending.specs.Sending.{Stream, Due, new_sender, refresh_due, due_by, due_of, next_refresh}
+use Rattle.sending.specs.Sending.{Stream, new_sender, refresh_due, due_by, due_of, next_refresh}
+use Rattle.sending.specs.declared.event.Packet.{Packet}
 use Rattle.sending.specs.Runs.{Call, since_from, OfEvent, does, step}
 use Rattle.sending.proofs.Turns.{impossible, Current, each_call}
 
@@ -27,7 +28,7 @@ module _ {M : Type 0} (k : Meaning M) where
   }
 
   module _ (s : Stream M) (ts : List ℕ) (kept : Kept s ts) where
-    abbrev IsOf : ℕ → Due M → Type 0
+    abbrev IsOf : ℕ → Packet M → Type 0
     IsOf t d = (e : Event M) × (s.latest ≡ Some e) × OfEvent k e ts t d
 
     copy_is : (t : ℕ) (e : Event M) → s.copies < 3 → e.time + 5 * s.copies ≤ t →
@@ -58,10 +59,10 @@ module _ {M : Type 0} (k : Meaning M) where
         }
 
     -- a packet that is due is of the latest event, and comes in its turn and at its moment
-    pub due_is : (t : ℕ) (d : Due M) → due_of s t ≡ Some d → IsOf t d
+    pub due_is : (t : ℕ) (d : Packet M) → due_of s t ≡ Some d → IsOf t d
     due_is t d h = by s.latest refl h
       where
-        to : (e : Event M) (x : Due M) → s.latest ≡ Some e → OfEvent k e ts t x → Some x ≡ Some d → IsOf t d
+        to : (e : Event M) (x : Packet M) → s.latest ≡ Some e → OfEvent k e ts t x → Some x ≡ Some d → IsOf t d
         to e x l so same = let is : x ≡ d = cc in (e, l, subst (λ y. OfEvent k e ts t y) is so)
 
         copy : (e : Event M) → s.latest ≡ Some e → s.copies < 3 → (b : Bool) → leb (e.time + 5 * s.copies) t ≡ b →
@@ -131,6 +132,6 @@ module _ {M : Type 0} (k : Meaning M) where
               ∙ ap (λ m. next_refresh k t m) (is.2.message ∙ ap (λ (x : Event M). x.message) event) ∙ ap (λ n. next_refresh k n e.message) here;
         })
       where
-        refreshed : (t : ℕ) (d : Due M) → Current s.clock t → (r : ℕ) (b : Bool) → cond b (Some t) s.refreshed ≡ Some r → r ≤ t
+        refreshed : (t : ℕ) (d : Packet M) → Current s.clock t → (r : ℕ) (b : Bool) → cond b (Some t) s.refreshed ≡ Some r → r ≤ t
         refreshed t d on r true f = let same : t ≡ r = cc in omega arith
         refreshed t d on r false f = omega (arith, kept.refreshed_in r f)

@@ -6,13 +6,14 @@ use Rattle.std.proofs.lemmas.Bool.{cases_lt}
 use Rattle.std.specs.Option.{option_map}
 use Rattle.type3.specs.Kinds.{Meaning, Lawful}
 use Rattle.sending.specs.declared.event.Event.{Event}
-use Rattle.sending.specs.Sending.{Stream, Due, refresh_due, due_by, due_of, next_refresh, sent}
+use Rattle.sending.specs.Sending.{Stream, refresh_due, due_by, due_of, next_refresh, sent}
+use Rattle.sending.specs.declared.event.Packet.{Packet}
 use Rattle.sending.specs.Runs.{plan}
 use Rattle.sending.proofs.Plan.{copy_now, no_copy_yet, no_refresh, refresh_now, no_refresh_yet}
 
 module _ {M : Type 0} (k : Meaning M) (law : Lawful k) (e : Event M) where
   -- the planned packet, as the stream has it
-  abbrev pub as_due : ℕ → Option ℕ → Option (Due M)
+  abbrev pub as_due : ℕ → Option ℕ → Option (Packet M)
   as_due i None = None
   as_due i (Some r) = Some (record { redundancy = r; time = cond (eqb r 3) (e.time + i) e.time; message = e.message })
 

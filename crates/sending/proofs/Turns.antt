@@ -6,7 +6,8 @@ use Rattle.refusal.specs.declared.Refusal.{Refusal}
 use Rattle.refusal.proofs.Asked.{accepted as all_yes}
 use Rattle.type3.specs.Kinds.{Meaning}
 use Rattle.sending.specs.declared.event.Event.{Event}
-use Rattle.sending.specs.Sending.{Stream, Due, later, later_than_event, event_questions, due_of, after_packet, sent, due_questions}
+use Rattle.sending.specs.Sending.{Stream, later, later_than_event, event_questions, due_of, after_packet, sent, due_questions}
+use Rattle.sending.specs.declared.event.Packet.{Packet}
 use Rattle.sending.specs.Runs.{Call, event, due, Did, accepted, made, neither, did_event, did_due, does, step}
 
 pub impossible : {X : Type 0} → ◌≡◌ {A = ℕ} 0 1 → X
@@ -35,7 +36,7 @@ module _ {M : Type 0} where
       (refused : P neither s)
       (event_taken : (e : Event M) → Current s.clock e.time → free s e.time ≡ true → P (accepted e) (after_event s e))
       (nothing_due : (t : ℕ) → Current s.clock t → P neither (after_nothing s t))
-      (packet_made : (t : ℕ) (d : Due M) → Current s.clock t → due_of s t ≡ Some d → P (made t d) (after_packet k s t d)) where
+      (packet_made : (t : ℕ) (d : Packet M) → Current s.clock t → due_of s t ≡ Some d → P (made t d) (after_packet k s t d)) where
     -- what is so of each of these is so of every call
     pub each_call : (c : Call M) → P (does k s c) (step k s c)
     each_call (event t m) = by (first_no (event_questions s t)) refl
@@ -50,7 +51,7 @@ module _ {M : Type 0} where
         by (Some f) is = refused
     each_call (due t room) = by (first_no (due_questions k s t room)) refl
       where
-        found : Current s.clock t → (o : Option (Due M)) → due_of s t ≡ o → P (did_due t o (sent k s t o).0) (sent k s t o).1
+        found : Current s.clock t → (o : Option (Packet M)) → due_of s t ≡ o → P (did_due t o (sent k s t o).0) (sent k s t o).1
         found on None is = nothing_due t on
         found on (Some d) is = packet_made t d on is
 

@@ -1,5 +1,4 @@
-pub mod Bounds
 pub mod Sending
-pub mod Seen
+pub mod Answered
 pub mod Audio
 pub mod Runs

@@ -6,7 +6,8 @@ use Rattle.refusal.specs.declared.Refusal.{Refusal}
 use Rattle.type3.specs.Kinds.{Meaning}
 use Rattle.sending.specs.declared.event.Event.{Event}
 use Rattle.sending.specs.Sending as on
-use Rattle.sending.specs.Sending.{Stream, Due, new_sender, due_of}
+use Rattle.sending.specs.Sending.{Stream, new_sender, due_of}
+use Rattle.sending.specs.declared.event.Packet.{Packet}
 
 -- an event with its time and message, or a due call with its time and the room in its buffer
 pub data Call (M : Type 0) : Type 0 where
@@ -16,7 +17,7 @@ pub data Call (M : Type 0) : Type 0 where
 -- what a call did: its event was accepted, or it made a packet at its time, or neither
 pub data Did (M : Type 0) : Type 0 where
   accepted : Event M → Did M
-  made : ℕ → Due M → Did M
+  made : ℕ → Packet M → Did M
   neither : Did M
 
 module _ {M : Type 0} where
@@ -25,7 +26,7 @@ module _ {M : Type 0} where
   did_event e (Err f) = neither
 
   -- the answer of a due call, beside the packet that was due
-  abbrev pub did_due : ℕ → Option (Due M) → Result (Option (List ℕ)) Refusal → Did M
+  abbrev pub did_due : ℕ → Option (Packet M) → Result (Option (List ℕ)) Refusal → Did M
   did_due t d (Err f) = neither
   did_due t None (Ok o) = neither
   did_due t (Some d) (Ok o) = made t d
@@ -92,7 +93,7 @@ module _ {M : Type 0} (k : Meaning M) where
 
   -- A packet made by a call, after those of its event that were sent at the times ts: it carries the event's message. The first
   -- three are copies, numbered in order, made for the event's time, each not before its moment; all others are refreshes.
-  pub record OfEvent (e : Event M) (ts : List ℕ) (call : ℕ) (d : Due M) : Type 0 where
+  pub record OfEvent (e : Event M) (ts : List ℕ) (call : ℕ) (d : Packet M) : Type 0 where
     pub message : d.message ≡ e.message
     pub in_order : d.redundancy ≡ min (length ts) 3
     pub copy_for_event : length ts < 3 → d.time ≡ e.time
@@ -102,13 +103,13 @@ module _ {M : Type 0} (k : Meaning M) where
 
   pub record LawfulHistory (ds : List (Did M)) : Type 0 where
     -- an accepted event is later than the time that every packet before it was made for
-    pub events_are_later : (b1 b2 rest : List (Did M)) (call : ℕ) (d : Due M) (e : Event M) →
+    pub events_are_later : (b1 b2 rest : List (Did M)) (call : ℕ) (d : Packet M) (e : Event M) →
         ds ≡ b1 ++ (made call d ∷ (b2 ++ (accepted e ∷ rest))) → d.time < e.time
     -- a packet is of the latest event before it, and comes in its turn and at its moment
-    pub packets_are_of_the_latest_event : (before rest : List (Did M)) (call : ℕ) (d : Due M) →
+    pub packets_are_of_the_latest_event : (before rest : List (Did M)) (call : ℕ) (d : Packet M) →
         ds ≡ before ++ (made call d ∷ rest) → (e : Event M) × (latest before ≡ Some e) × OfEvent e (since before) call d
     -- a packet's message is the one that the stream had at the time that the packet was made for, whatever was accepted later
-    pub packets_tell_what_was_had : (before rest : List (Did M)) (call : ℕ) (d : Due M) →
+    pub packets_tell_what_was_had : (before rest : List (Did M)) (call : ℕ) (d : Packet M) →
         ds ≡ before ++ (made call d ∷ rest) → had d.time ds ≡ Some d.message
 
   -- every list of calls on a new stream has a lawful history

@@ -9,6 +9,7 @@ use Rattle.type3.specs.Kinds.{Meaning}
 use Rattle.type3.specs.Octets.{written}
 use Rattle.type3.specs.declared.payload.Payload.{Payload}
 use Rattle.sending.specs.declared.event.Event.{Event}
+use Rattle.sending.specs.declared.event.Packet.{Packet}
 
 -- The sending half of a message stream: the time of the latest call that was not refused, the latest event, how many copies of
 -- it went out, when the next refresh is due, and when the last refresh went out.
@@ -18,12 +19,6 @@ pub record Stream (M : Type 0) : Type 0 where
   pub copies : ℕ
   pub refresh : Option ℕ
   pub refreshed : Option ℕ
-
--- a packet that is due: its redundancy, the time that it is made for, and its message
-pub record Due (M : Type 0) : Type 0 where
-  pub redundancy : ℕ
-  pub time : ℕ
-  pub message : M
 
 -- later than another time, if there is one
 abbrev pub later : Option ℕ → ℕ → Bool
@@ -56,12 +51,12 @@ module _ {M : Type 0} where
   -- ---- what is due
 
   -- the refresh, if its moment has come: it is made for the time of the call
-  abbrev pub refresh_due : Option ℕ → ℕ → M → Option (Due M)
+  abbrev pub refresh_due : Option ℕ → ℕ → M → Option (Packet M)
   refresh_due None t m = None
   refresh_due (Some moment) t m = cond (nat_le moment t) (Some (record { redundancy = 3; time = t; message = m })) None
 
   -- copy c of an event is due 5 × c ms after it, and is made for the event's time
-  abbrev pub due_by : Stream M → ℕ → Option (Event M) → Option (Due M)
+  abbrev pub due_by : Stream M → ℕ → Option (Event M) → Option (Packet M)
   due_by s t None = None
   due_by s t (Some e) =
       cond (nat_lt s.copies 3)
@@ -69,22 +64,22 @@ module _ {M : Type 0} where
       (refresh_due s.refresh t e.message)
 
   -- the first unsent packet whose moment has come
-  abbrev pub due_of : Stream M → ℕ → Option (Due M)
+  abbrev pub due_of : Stream M → ℕ → Option (Packet M)
   due_of s t = due_by s t s.latest
 
   -- what a packet says: its stamp is the time that it is made for, modulo 16,384
-  abbrev pub said_by : Due M → Payload M
+  abbrev pub said_by : Packet M → Payload M
   said_by d = record { redundancy = d.redundancy; stamp = d.time % 16384; message = d.message }
 
   module _ (k : Meaning M) where
-    abbrev pub octets_of : Due M → List ℕ
+    abbrev pub octets_of : Packet M → List ℕ
     octets_of d = written k (said_by d)
 
     -- after copy 2 and after each refresh the next refresh is due a gap later, if the message has a gap
     abbrev pub next_refresh : ℕ → M → Option ℕ
     next_refresh t m = option_map (λ gap. t + gap) (k.gap m)
 
-    abbrev pub after_packet : Stream M → ℕ → Due M → Stream M
+    abbrev pub after_packet : Stream M → ℕ → Packet M → Stream M
     after_packet s t d = record {
       clock = t;
       latest = s.latest;
@@ -93,7 +88,7 @@ module _ {M : Type 0} where
       refreshed = cond (d.redundancy == 3) (Some t) s.refreshed;
     }
 
-    abbrev pub sent : Stream M → ℕ → Option (Due M) → Result (Option (List ℕ)) Refusal × Stream M
+    abbrev pub sent : Stream M → ℕ → Option (Packet M) → Result (Option (List ℕ)) Refusal × Stream M
     sent s t None = (Ok None, record { clock = t; latest = s.latest; copies = s.copies; refresh = s.refresh; refreshed = s.refreshed })
     sent s t (Some d) = (Ok (Some (octets_of d)), after_packet s t d)
 

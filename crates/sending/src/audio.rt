@@ -1,22 +1,34 @@
 // The sending half of the audio stream.
 ghost use Rattle.std.specs.Prelude.{◌≡◌, ◌≤◌, length};
-ghost use Rattle.refusal.specs.Questions.{first_no};
+ghost use Rattle.refusal.specs.Questions.{first_no, allowed};
 ghost use Rattle.sending.specs.Audio.{audio, audio_questions};
 
 use profile::entry::Entry;
 use profile::profile::Profile;
-use refusal::times::is_time;
+use refusal::times::Time;
 use refusal::{Refusal, SendingFault};
+use std::marker::Model;
 
-#[derive(Clone, Copy)]
+// In contracts it is the end of the last accepted packet.
+#[derive(Clone, Copy, Debug, PartialEq, Eq)]
 pub struct AudioSender {
-    // the end of the last accepted packet: no packet may start before it
-    pub(crate) free: u64,
+    // no packet may start before it
+    free: u64,
+}
+
+impl Model for AudioSender {
+    ghost use Rattle.std.specs.Prelude.{ℕ};
+
+    ghost Value = { ℕ };
+
+    ghost view = { λ s. s.free };
+
+    ghost inverse = { λ n. record { free = n } };
 }
 
 impl AudioSender {
     pub fn new() -> AudioSender
-        ensures { result.free ≡ 0 }
+        ensures { result ≡ 0 }
     {
         AudioSender { free: 0 }
     }
@@ -29,35 +41,31 @@ impl AudioSender {
         place: usize,
         payload: &[u8],
     ) -> Result<u16, Refusal>
-        ensures value { result ≡ (audio profile.now.entries.items self.old.free time place (length payload.now)).0 }
-        ensures after { self.new.free ≡ (audio profile.now.entries.items self.old.free time place (length payload.now)).1 }
+        ensures value { result ≡ (audio profile.now.entries.items self.old time place (length payload.now)).0 }
+        ensures after { self.new ≡ (audio profile.now.entries.items self.old time place (length payload.now)).1 }
     {
-        if !is_time(time) {
-            return Err(Refusal::Sending(SendingFault::TimeOutOfRange));
-        }
+        let time = Time::new(time).ok_or(SendingFault::TimeOutOfRange)?.get();
         let (Some(entry), Some(uui)) = (profile.entry(place), profile.label(place, time)) else {
-            return Err(Refusal::Sending(SendingFault::NoEntry));
+            return Err(SendingFault::NoEntry.into());
         };
-        if let Some(refusal) = self.refuse(time, payload.len(), entry) {
-            return Err(refusal);
-        }
+        self.check(time, payload.len(), entry)?;
         self.free = time + u64::from(entry.packet_time);
         Ok(uui)
     }
 
-    fn refuse(&self, time: u64, length: usize, entry: Entry) -> Option<Refusal>
+    fn check(&self, time: u64, length: usize, entry: Entry) -> Result<(), Refusal>
         requires { 1 ≤ entry.interval }
-        ensures { result ≡ first_no (audio_questions self.now.free time length entry) }
+        ensures { result ≡ allowed (first_no (audio_questions self.now time length entry)) }
     {
         if length != usize::from(entry.length) {
-            return Some(Refusal::Sending(SendingFault::PayloadLength));
+            return Err(SendingFault::PayloadLength.into());
         }
         if time % u64::from(entry.interval) != 0 {
-            return Some(Refusal::Sending(SendingFault::OffInterval));
+            return Err(SendingFault::OffInterval.into());
         }
         if time < self.free {
-            return Some(Refusal::Sending(SendingFault::Overlap));
+            return Err(SendingFault::Overlap.into());
         }
-        None
+        Ok(())
     }
 }

@@ -1,16 +1,34 @@
 // An event that was accepted, and a packet that is due of one.
-use type3::bounded::Redundancy;
+ghost use Rattle.std.specs.Prelude.{◌≡◌};
+ghost use Rattle.sending.specs.Sending.{said_by};
 
-#[derive(Clone, Copy)]
+use refusal::times::Time;
+use type3::bounded::{Redundancy, Stamp};
+use type3::payload::Payload;
+
+#[derive(Clone, Copy, Debug, PartialEq, Eq)]
 pub struct Event<T> {
-    pub time: u64,
+    pub time: Time,
     pub message: T,
 }
 
 // A packet is made for a time: a copy for its event's, a refresh for that of the call which sends it.
-#[derive(Clone, Copy)]
+#[derive(Clone, Copy, Debug, PartialEq, Eq)]
 pub struct Packet<T> {
     pub redundancy: Redundancy,
-    pub time: u64,
+    pub time: Time,
     pub message: T,
+}
+
+impl<T: Copy> Packet<T> {
+    // What it says: its stamp is that of the time that it is made for.
+    pub(crate) fn payload(&self) -> Payload<T>
+        ensures { result ≡ said_by self.now }
+    {
+        Payload {
+            redundancy: self.redundancy,
+            stamp: Stamp::at(self.time.get()),
+            message: self.message,
+        }
+    }
 }

@@ -1,8 +1,9 @@
 // The sending half of a message stream.
-ghost use Rattle.std.specs.Prelude.{◌≡◌, true};
-ghost use Rattle.sending.specs.Bounds.{event_in_range};
+ghost use Rattle.std.specs.Prelude.{◌≡◌};
 
 use crate::event::Event;
+use refusal::times::Time;
+use std::marker::Model;
 use type3::bounded::Redundancy;
 use type3::kind::Kind;
 
@@ -17,6 +18,13 @@ pub struct Sender<K: Kind> {
     // when the next refresh is due
     pub(crate) refresh: Option<u64>,
     // when the last refresh went out, of any event
-    pub(crate) refreshed: Option<u64>,
-    ghost in_range: { event_in_range latest ≡ true },
+    pub(crate) refreshed: Option<Time>,
+}
+
+impl<K: Kind> Model for Sender<K> {
+    ghost use Rattle.sending.specs.Sending.{Stream};
+
+    ghost Value = { Stream K.Message };
+
+    ghost view = { λ s. record { clock = s.clock; latest = s.latest; copies = s.next; refresh = s.refresh; refreshed = s.refreshed } };
 }

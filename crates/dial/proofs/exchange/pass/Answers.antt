@@ -1,6 +1,6 @@
 use Rattle.std.proofs.Common.{◌≡◌, length, Ok, sym, ap, ◌∙◌, rules}
 use Rattle.std.proofs.lemmas.Result.{err_from_is_err_and}
-use Rattle.sending.specs.Seen.{seen}
+use Rattle.sending.specs.Answered.{seen}
 use Rattle.sending.specs.Sending.{due, due_of}
 use Rattle.kinds.specs.Digits.{digits}
 use Rattle.dial.specs.Heard.{says}

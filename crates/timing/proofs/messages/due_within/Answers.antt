@@ -1,5 +1,5 @@
 use Rattle.std.proofs.Common.{ap, ◌∙◌, rules}
-use Rattle.sending.specs.Seen.{seen, counted}
+use Rattle.sending.specs.Answered.{seen, counted}
 use Rattle.sending.specs.Sending.{due}
 use Rattle.timing.proofs.messages.due_within.Goals as goal
 

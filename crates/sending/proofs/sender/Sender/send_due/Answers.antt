@@ -1,5 +1,5 @@
 use Rattle.std.proofs.Common.{sym, ap, ◌∙◌}
-use Rattle.sending.specs.Seen.{seen, packet_seen}
+use Rattle.sending.specs.Answered.{seen, packet_seen}
 use Rattle.sending.proofs.Dues.{due_is, value_is, octets_are}
 use Rattle.sending.proofs.sender.Sender.send_due.Goals as goal
 
