@@ -6,9 +6,10 @@ ghost use Rattle.crc10.specs.Division.{remainder, divide_on, Divides};
 ghost use Rattle.crc10.specs.Check.{bits, octet_bits, check_field, crc_of, right, Published};
 ghost use Rattle.crc10.specs.Changes.{ChangesAreFound};
 
+mod remainder;
 mod table;
 
-use table::TABLE;
+use remainder::Remainder;
 
 // The two lowest bits of `high`, and then the bits of `low`.
 fn ten_bits(high: u16, low: u8) -> u16
@@ -17,24 +18,13 @@ fn ten_bits(high: u16, low: u8) -> u16
     (high & 3) << 8 | u16::from(low)
 }
 
-// Divides on through the eight bits of an octet, where the bits before it have left `rest`.
-fn divide_octet(rest: u16, octet: u8) -> u16
-    requires { rest < 1024 }
-    ensures { result ≡ divide_on rest (octet_bits octet) }
-{
-    TABLE[usize::from(rest >> 2)] ^ ten_bits(rest, octet)
-}
-
 // The remainder of all the octets' bits, as one polynomial.
-fn remainder_of(octets: &[u8]) -> u16
-    ensures value { result ≡ remainder (bits octets.now) }
-    ensures below { result < 1024 }
+fn remainder_of(octets: &[u8]) -> Remainder
+    ensures { result ≡ remainder (bits octets.now) }
 {
-    let mut rest = 0;
-    for octet in octets {
-        rest = divide_octet(rest, *octet);
-    }
-    rest
+    octets
+        .iter()
+        .fold(Remainder::zero(), |rest, octet| rest.after(*octet))
 }
 
 // The number in a payload's last ten bits, or in all of its bits where it has fewer.
@@ -55,7 +45,7 @@ pub fn crc_of(payload: &[u8]) -> u16
     ensures divides { Divides }
     ensures published { Published }
 {
-    remainder_of(payload) ^ check_field(payload)
+    remainder_of(payload).get() ^ check_field(payload)
 }
 
 // Whether a payload's last ten bits are the CRC of the bits before them: exactly then the whole leaves no remainder.
@@ -65,5 +55,5 @@ pub fn is_right(payload: &[u8]) -> bool
     ensures answer { result ≡ right payload.now }
     ensures changes { ChangesAreFound }
 {
-    remainder_of(payload) == 0
+    remainder_of(payload).get() == 0
 }

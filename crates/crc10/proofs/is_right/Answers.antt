@@ -1,11 +1,10 @@
-use Rattle.std.proofs.Common.{ℕ, eqb, ap, ◌∙◌}
+use Rattle.std.proofs.Common.{arith}
 use Rattle.crc10.proofs.Whole.{right_whole}
 use Rattle.crc10.proofs.Detect.{changes_are_found}
 use Rattle.crc10.proofs.is_right.Goals as goal
 
-pub returns : goal.returns
-returns c =
-    record {
-      answer = ap (λ (n : ℕ). eqb n 0) c.remainder_of.ensures.value ∙ right_whole c.args.payload.now;
-      changes = changes_are_found;
-    }
+pub returns-clause-answer : goal.returns-clause-answer
+returns-clause-answer c = grind (arith, right_whole)
+
+pub returns-clause-changes : goal.returns-clause-changes
+returns-clause-changes c = changes_are_found
