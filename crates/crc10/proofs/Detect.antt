@@ -12,12 +12,7 @@ use Rattle.crc10.proofs.Whole.{bring_small, right_whole, length_bits}
 -- ---- a remainder that is not 0 stays so through zeros: the generator's lowest coefficient is 1
 
 bring_stays : (r : ℕ) → r < 1024 → r ≢ 0 → bring_down r false ≢ 0
-bring_stays r h n e =
-    let t = below_at (λ m. eqb m 0 || not (eqb (bring_down m false) 0)) 1024 refl r h in
-    elim (or_cases (eqb r 0) (not (eqb (bring_down r false) 0)) t) [
-      | inl z ↦ n (eqb-true r 0 z)
-      | inr s ↦ eqb-false (bring_down r false) 0 (not-true _ s) e
-    ]
+bring_stays r h n e = grind (arith, below_at (λ m. eqb m 0 || not (eqb (bring_down m false) 0)) 1024 refl r h)
 
 quiet : (r : ℕ) (bs : List Bool) → r < 1024 → r ≢ 0 → ones bs ≡ 0 → divide_on r bs ≢ 0
 quiet r [] h n e = n
@@ -53,11 +48,7 @@ unfolding weight
 weight_zero = refl
 
 odd_found : (bs : List Bool) → ones bs % 2 ≡ 1 → remainder bs ≢ 0
-odd_found bs o e =
-    let p = divide_parity 0 bs (omega arith) in
-    let q = ap weight e in
-    let z = weight_zero in
-    omega arith
+odd_found bs o e = grind (arith, divide_parity 0 bs, ap weight e, weight_zero)
 
 -- ---- two ones at most 95 apart: no power of x up to there leaves the remainder 1
 
@@ -74,8 +65,7 @@ second i [] e l = absurd (omega arith)
 second i (false ∷ bs) e l = second (suc i) bs e (omega arith)
 second i (true ∷ bs) e l =
     quiet (bring_down (power i) true) bs (bring_lt (power i) true (power_lt i))
-    (eqb-false (bring_down (power i) true) 0
-    (not-true _ (below_at (λ n. not (eqb (bring_down (power n) true) 0)) 96 refl i (omega arith))))
+    (grind (arith, below_at (λ n. not (eqb (bring_down (power n) true) 0)) 96 refl i (omega arith)))
     (omega arith)
 
 two_found : (bs : List Bool) → ones bs ≡ 2 → length bs ≤ 96 → remainder bs ≢ 0
@@ -84,11 +74,7 @@ two_found (false ∷ bs) e l = two_found bs e (omega arith)
 two_found (true ∷ bs) e l = second 0 bs (omega arith) (omega arith)
 
 few_found : (bs : List Bool) → 1 ≤ ones bs → ones bs ≤ 3 → length bs ≤ 96 → remainder bs ≢ 0
-few_found bs a b l =
-    elim (cases_eq (ones bs % 2) 1) [
-      | inl o ↦ odd_found bs o
-      | inr e ↦ let two : ones bs ≡ 2 = omega arith in two_found bs two l
-    ]
+few_found bs a b l = grind (arith, odd_found bs, two_found bs)
 
 -- ---- ones within ten neighbours: j bits are behind, the first of them a one, and m may still come
 
@@ -99,10 +85,7 @@ inside j zero r (b ∷ bs) h n l o =
     quiet r (b ∷ bs) (omega arith) n o
 inside j (suc m) r (b ∷ bs) h n l o =
     let s = bring_small j r b h (omega arith) in
-    inside (suc j) m (bring_down r b) bs
-    (subst (λ (x : ℕ). x < 2 ^ suc j) (sym s.1) s.0)
-    (λ e. n (let z = sym s.1 ∙ e in omega arith))
-    (omega arith) o
+    inside (suc j) m (bring_down r b) bs (rw s.1 s.0) (λ e. n (omega (arith, s.1, e))) (omega arith) o
 
 burst_found : (bs : List Bool) → 1 ≤ ones bs → ones (drop 10 (from_first bs)) ≡ 0 → remainder bs ≢ 0
 burst_found [] o h = absurd (omega arith)
@@ -112,29 +95,15 @@ burst_found (false ∷ bs) o h = burst_found bs o h
 -- ---- the theorem
 
 changes_found : (ds : List Bool) → length ds ≤ 96 → (few ds || odd ds || burst ds) ≡ true → remainder ds ≢ 0
-changes_found ds l t =
-    elim (or_cases (few ds || odd ds) (burst ds) t) [
-      | inl a ↦ elim (or_cases (few ds) (odd ds) a) [
-        | inl b ↦ let f = and_parts (leb 1 (ones ds)) (leb (ones ds) 3) b in
-            few_found ds (leb-true 1 (ones ds) f.0) (leb-true (ones ds) 3 f.1) l
-        | inr b ↦ odd_found ds (eqb-true (ones ds % 2) 1 b)
-      ]
-      | inr a ↦ let f = and_parts (leb 1 (ones ds)) (eqb (ones (drop 10 (from_first ds))) 0) a in
-          burst_found ds (leb-true 1 (ones ds) f.0) (eqb-true (ones (drop 10 (from_first ds))) 0 f.1)
-    ]
+changes_found ds l t = grind (arith, few_found ds, odd_found ds, burst_found ds)
 
 length_differences : (xs ys : List Bool) → length (differences xs ys) ≤ length xs
 length_differences [] ys = omega arith
 length_differences (x ∷ xs) [] = omega arith
-length_differences (x ∷ xs) (y ∷ ys) = let h = length_differences xs ys in omega arith
+length_differences (x ∷ xs) (y ∷ ys) = omega (arith, length_differences xs ys)
 
 pub changes_are_found : ChangesAreFound
 changes_are_found p q h k e rp t =
-    let lp = length_bits p in
-    let lq = length_bits q in
-    let l = length_differences (bits p) (bits q) in
     let s : remainder (changed p q) ≡ bit_xor (remainder (bits p)) (remainder (bits q)) =
-    divide_xor 0 0 (bits p) (bits q) (omega arith) (omega arith) (omega arith) in
-    let zp : remainder (bits p) ≡ 0 = eqb-true _ 0 (right_whole p ∙ rp) in
-    sym (right_whole q)
-    ∙ ne_eqb (remainder (bits q)) 0 (λ zq. changes_found (changed p q) (omega arith) t (s ∙ ap₂ bit_xor zp zq))
+    divide_xor 0 0 (bits p) (bits q) (grind (arith, length_bits)) (omega arith) (omega arith) in
+    grind (arith, s, right_whole p, right_whole q, changes_found (changed p q), length_differences (bits p) (bits q), length_bits p)

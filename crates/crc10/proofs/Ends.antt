@@ -1,5 +1,6 @@
 -- A payload's last two octets: the check field in them, and what stays as it is where only its ten bits change. Assumes nothing.
 use Rattle.std.proofs.Common.{◌≡◌, ℕ, suc, ◌+◌, ◌-◌, ◌*◌, ◌/◌, ◌%◌, ◌<◌, ◌≤◌, Bool, false, eqb, List, [], ◌∷◌, ◌++◌, length, get_or, take, drop, replicate, sym, refl, ap, ◌∙◌, ap₂, zero-add, arith, length-append, take-append-drop, shr-shr}
+use Rattle.std.proofs.lemmas.Grind.{common_steps}
 use Rattle.std.proofs.lemmas.List.{drop_more, drop_all}
 use Rattle.std.proofs.lemmas.Bool.{eqb-true}
 use Rattle.crc10.specs.Division.{number, number_on}
@@ -15,7 +16,7 @@ crc_low p = divide_lt 0 (checked p ++ replicate 10 false) (omega arith)
 
 eight_more : (x : ℕ) (p : List ℕ) → 2 ≤ length p
     → length (bits (x ∷ p)) - 10 ≡ suc (suc (suc (suc (suc (suc (suc (suc (length (bits p) - 10))))))))
-eight_more x p h = let l = length_bits p in omega arith
+eight_more x p h = grind (arith, length_bits)
 
 field_tail : (x : ℕ) (p : List ℕ) → 2 ≤ length p → check_field (x ∷ p) ≡ check_field p
 field_tail x p h = ap (λ (n : ℕ). number (drop n (bits (x ∷ p)))) (eight_more x p h)
@@ -37,31 +38,23 @@ number_octet m o h k =
     (below_at (λ n. eqb (number_on (n / 256) (octet_bits (n % 256))) n) 1024 refl (m * 256 + o) (omega arith))
 
 two_more : (pre : List ℕ) (z w : ℕ) → 2 ≤ length (pre ++ (z ∷ w ∷ []))
-two_more pre z w = let e = length-append pre (z ∷ w ∷ []) in omega arith
+two_more pre z w = grind (arith, length-append)
 
 pub field_end : (pre : List ℕ) (z w : ℕ) → z < 256 → w < 256 → check_field (pre ++ (z ∷ w ∷ [])) ≡ z % 4 * 256 + w
-field_end [] z w hz hw =
-    ap (λ (n : ℕ). number_on n (octet_bits w)) (low_two z hz) ∙ number_octet (z % 4) w (omega arith) hw
-field_end (x ∷ pre) z w hz hw = field_tail x (pre ++ (z ∷ w ∷ [])) (two_more pre z w) ∙ field_end pre z w hz hw
+field_end [] z w hz hw = rw (low_two z hz) (number_octet (z % 4) w (omega arith) hw)
+field_end (x ∷ pre) z w hz hw = grind (arith, field_tail, two_more pre z w, field_end pre z w hz hw)
 
 pub field_one : (p : List ℕ) → length p ≡ 1 → get_or p 0 0 < 256 → check_field p ≡ get_or p 0 0
 field_one [] e h = absurd (omega arith)
-field_one (o ∷ []) e h = number_octet 0 o (omega arith) h ∙ zero-add o
+field_one (o ∷ []) e h = grind (arith, number_octet 0 o)
 field_one (o ∷ v ∷ os) e h = absurd (omega arith)
 
 last_two : (p : List ℕ) (n m : ℕ) → n + 1 ≡ m → m + 1 ≡ length p → p ≡ take n p ++ (get_or p n 0 ∷ get_or p m 0 ∷ [])
-last_two p n m e f =
-    sym (take-append-drop n p)
-    ∙ ap (λ (q : List ℕ). take n p ++ q)
-    (drop_more p n 0 (omega arith)
-    ∙ ap {B = List ℕ} (λ q. get_or p n 0 ∷ q)
-    (ap (λ (k : ℕ). drop k p) e
-    ∙ drop_more p m 0 (omega arith)
-    ∙ ap {B = List ℕ} (λ q. get_or p m 0 ∷ q) (drop_all (m + 1) p (omega arith))))
+last_two p n m e f = grind (arith, common_steps, take-append-drop, drop_more, drop_all)
 
 pub field_two : (p : List ℕ) (n m : ℕ) → n + 1 ≡ m → m + 1 ≡ length p → get_or p n 0 < 256 → get_or p m 0 < 256
     → check_field p ≡ get_or p n 0 % 4 * 256 + get_or p m 0
-field_two p n m e f hz hw = ap check_field (last_two p n m e f) ∙ field_end (take n p) (get_or p n 0) (get_or p m 0) hz hw
+field_two p n m e f hz hw = grind (arith, last_two p n m e f, field_end (take n p) (get_or p n 0) (get_or p m 0) hz hw)
 
 -- ---- the checked bits
 
@@ -69,9 +62,7 @@ pub checked_end : (pre : List ℕ) (z w y v : ℕ) → take 6 (octet_bits z) ≡
     → checked (pre ++ (z ∷ w ∷ [])) ≡ checked (pre ++ (y ∷ v ∷ []))
 checked_end [] z w y v e = e
 checked_end (x ∷ pre) z w y v e =
-    checked_tail x (pre ++ (z ∷ w ∷ [])) (two_more pre z w)
-    ∙ ap (λ (bs : List Bool). octet_bits x ++ bs) (checked_end pre z w y v e)
-    ∙ sym (checked_tail x (pre ++ (y ∷ v ∷ [])) (two_more pre y v))
+    cc (checked_tail x (pre ++ (z ∷ w ∷ [])) (two_more pre z w), checked_end pre z w y v e, checked_tail x (pre ++ (y ∷ v ∷ [])) (two_more pre y v))
 
 -- the six high bits of an octet are those of its quarter
 abbrev six : ℕ → List Bool
@@ -87,4 +78,4 @@ quarter_bits o =
 pub high_six : (v h : ℕ) → v < 256 → h < 4 → take 6 (octet_bits (v / 4 * 4 + h)) ≡ take 6 (octet_bits v)
 high_six v h hv hh =
     let e : (v / 4 * 4 + h) / 4 ≡ v / 4 = omega arith in
-    quarter_bits (v / 4 * 4 + h) ∙ ap six e ∙ sym (quarter_bits v)
+    cc (quarter_bits (v / 4 * 4 + h), e, quarter_bits v)

@@ -12,10 +12,7 @@ coefficient_lt true = omega arith
 coefficient_lt false = omega arith
 
 pub xor_swap : (a b c d : ℕ) → bit_xor (bit_xor a b) (bit_xor c d) ≡ bit_xor (bit_xor a c) (bit_xor b d)
-xor_swap a b c d =
-    xor_assoc a b (bit_xor c d)
-    ∙ ap (bit_xor a) (sym (xor_assoc b c d) ∙ ap (λ (x : ℕ). bit_xor x d) (xor_comm b c) ∙ xor_assoc c b d)
-    ∙ sym (xor_assoc a c (bit_xor b d))
+xor_swap a b c d = grind (arith, xor_assoc, xor_comm)
 
 -- ---- one step
 
@@ -28,9 +25,7 @@ bring_lt r true h = ltb-true _ _ (below_at (λ n. ltb (bring_down n true) 1024) 
 bring_lt r false h = ltb-true _ _ (below_at (λ n. ltb (bring_down n false) 1024) 1024 refl r h)
 
 times : (a b : ℕ) → a < 2 → b < 2 → bit_xor a b * generator ≡ bit_xor (a * generator) (b * generator)
-times zero zero h k = refl
-times zero (suc zero) h k = refl
-times zero (suc (suc b)) h k = absurd (omega arith)
+times zero b h k = refl
 times (suc zero) zero h k = refl
 times (suc zero) (suc zero) h k = refl
 times (suc zero) (suc (suc b)) h k = absurd (omega arith)
@@ -38,11 +33,8 @@ times (suc (suc a)) b h k = absurd (omega arith)
 
 reduced_xor : (t u : ℕ) → t < 2048 → u < 2048 → reduced (bit_xor t u) ≡ bit_xor (reduced t) (reduced u)
 reduced_xor t u h k =
-    taken (bit_xor t u) (xor_lt 11 t u h k)
-    ∙ ap (bit_xor (bit_xor t u))
-    (ap (λ (x : ℕ). x * generator) (xor_shr t u 10) ∙ times (t / 1024) (u / 1024) (omega arith) (omega arith))
-    ∙ xor_swap t u (t / 1024 * generator) (u / 1024 * generator)
-    ∙ sym (ap₂ bit_xor (taken t h) (taken u k))
+    rw (taken (bit_xor t u) (xor_lt 11 t u h k), taken t h, taken u k, xor_shr t u 10, times (t / 1024) (u / 1024) (omega arith) (omega arith))
+    (xor_swap t u (t / 1024 * generator) (u / 1024 * generator))
 
 coefficient_unlike : (a b : Bool) → coefficient (unlike a b) ≡ bit_xor (coefficient a) (coefficient b)
 coefficient_unlike true true = refl
@@ -53,12 +45,10 @@ coefficient_unlike false false = refl
 bring_xor : (r s : ℕ) (a b : Bool) → r < 1024 → s < 1024
     → bring_down (bit_xor r s) (unlike a b) ≡ bit_xor (bring_down r a) (bring_down s b)
 bring_xor r s a b h k =
-    let ha : coefficient a < 2 = coefficient_lt a in
-    let hb : coefficient b < 2 = coefficient_lt b in
-    ap reduced
-    (ap (λ (x : ℕ). bit_xor r s * 2 + x) (coefficient_unlike a b)
-    ∙ sym (xor_block 1 r s (coefficient a) (coefficient b) ha hb))
-    ∙ reduced_xor (r * 2 + coefficient a) (s * 2 + coefficient b) (omega arith) (omega arith)
+    let ha = coefficient_lt a in
+    let hb = coefficient_lt b in
+    rw (coefficient_unlike a b, ← xor_block 1 r s (coefficient a) (coefficient b) ha hb)
+    (reduced_xor (r * 2 + coefficient a) (s * 2 + coefficient b) (omega arith) (omega arith))
 
 -- ---- whole rows of bits
 

@@ -14,18 +14,16 @@ use Rattle.crc10.proofs.Laws.{coefficient_lt, divide_lt, divide_append, divide_x
 pub bring_small : (k n : ℕ) (b : Bool) → n < 2 ^ k → k < 10
     → (n * 2 + coefficient b < 2 ^ suc k) × (bring_down n b ≡ n * 2 + coefficient b)
 bring_small k n b h hk =
-    let d : coefficient b < 2 = coefficient_lt b in
+    let d = coefficient_lt b in
     let p = pow-suc 2 k in
-    let l : n * 2 + coefficient b < 2 ^ suc k = omega arith in
     let m : 2 ^ suc k ≤ 2 ^ 10 = pow_mono hk in
-    let t : ℕ = n * 2 + coefficient b in
-    (l, cond-true (ltb t 1024) t (bit_xor t generator) (lt-ltb t 1024 (omega arith)))
+    (omega arith, cond-true (ltb (n * 2 + coefficient b) 1024) _ _ (lt-ltb _ 1024 (omega arith)))
 
 divide_small : (k n : ℕ) (bs : List Bool) → n < 2 ^ k → k + length bs ≤ 10 → divide_on n bs ≡ number_on n bs
 divide_small k n [] h e = refl
 divide_small k n (b ∷ bs) h e =
     let s = bring_small k n b h (omega arith) in
-    ap (λ (x : ℕ). divide_on x bs) s.1 ∙ divide_small (suc k) (n * 2 + coefficient b) bs s.0 (omega arith)
+    rw s.1 (divide_small (suc k) (n * 2 + coefficient b) bs s.0 (omega arith))
 
 -- ---- dividing on through bits is dividing on through as many zeros, plus the bits divided alone
 
@@ -33,14 +31,14 @@ from_zeros : (n : ℕ) (bs : List Bool) → length bs ≡ n → differences (rep
 from_zeros zero [] e = refl
 from_zeros zero (b ∷ bs) e = absurd (omega arith)
 from_zeros (suc n) [] e = absurd (omega arith)
-from_zeros (suc n) (true ∷ bs) e = ap {B = List Bool} (λ r. true ∷ r) (from_zeros n bs (omega arith))
-from_zeros (suc n) (false ∷ bs) e = ap {B = List Bool} (λ r. false ∷ r) (from_zeros n bs (omega arith))
+from_zeros (suc n) (true ∷ bs) e = cc (from_zeros n bs (omega arith))
+from_zeros (suc n) (false ∷ bs) e = cc (from_zeros n bs (omega arith))
 
 pub divide_split : (r n : ℕ) (bs : List Bool) → length bs ≡ n → r < 1024
     → divide_on r bs ≡ bit_xor (divide_on r (replicate n false)) (remainder bs)
 divide_split r n bs e h =
-    ap₂ divide_on (sym (xor_zero_r r)) (sym (from_zeros n bs e))
-    ∙ divide_xor r 0 (replicate n false) bs (length-replicate n false ∙ sym e) h (omega arith)
+    let z = divide_xor r 0 (replicate n false) bs (length-replicate n false ∙ sym e) h (omega arith) in
+    cc (xor_zero_r r, from_zeros n bs e, z)
 
 -- ---- the whole payload
 
@@ -56,30 +54,19 @@ whole (o ∷ v ∷ os) =
     let n : ℕ = length (bits p) - 10 in
     let l = length_bits os in
     let e : length (drop n (bits p)) ≡ 10 = length-drop n (bits p) ∙ omega arith in
-    ap remainder (sym (take-append-drop n (bits p)))
-    ∙ divide_append 0 (checked p) (drop n (bits p))
-    ∙ divide_split (remainder (checked p)) 10 (drop n (bits p)) e (divide_lt 0 (checked p) (omega arith))
-    ∙ ap₂ bit_xor (sym (divide_append 0 (checked p) (replicate 10 false)))
-    (divide_small 0 0 (drop n (bits p)) (omega arith) (omega arith))
+    cc (take-append-drop n (bits p), divide_append 0 (checked p) (drop n (bits p)),
+    divide_split (remainder (checked p)) 10 (drop n (bits p)) e (divide_lt 0 (checked p) (omega arith)),
+    divide_append 0 (checked p) (replicate 10 false), divide_small 0 0 (drop n (bits p)) (omega arith) (omega arith))
 
 pub xor_cancel : (a b : ℕ) → bit_xor a b ≡ 0 → a ≡ b
-xor_cancel a b e =
-    sym (xor_zero_r a) ∙ ap (bit_xor a) (sym e) ∙ sym (xor_assoc a a b) ∙ ap (λ (x : ℕ). bit_xor x b) (xor_self a)
+xor_cancel a b e = sym (xor_zero_r a) ∙ cc (xor_assoc a a b, xor_self a)
 
 -- two numbers are the same exactly where their sum is 0
 same_xor : (a b : ℕ) → eqb (bit_xor a b) 0 ≡ eqb b a
-same_xor a b =
-    elim (cases_eq b a) [
-      | inl e ↦ ap (λ (x : ℕ). eqb (bit_xor a x) 0) e ∙ eq-eqb (bit_xor a a) 0 (xor_self a) ∙ sym (eq-eqb b a e)
-      | inr ne ↦ ne_eqb (bit_xor a b) 0 (λ z. ne (sym (xor_cancel a b z))) ∙ sym (ne_eqb b a ne)
-    ]
+same_xor a b = grind (arith, xor_cancel, xor_self)
 
 pub right_whole : (p : List ℕ) → eqb (remainder (bits p)) 0 ≡ right p
-right_whole p = ap (λ (x : ℕ). eqb x 0) (whole p) ∙ same_xor (crc_of p) (check_field p)
+right_whole p = rw (whole p) (same_xor (crc_of p) (check_field p))
 
 pub crc_whole : (p : List ℕ) → bit_xor (remainder (bits p)) (check_field p) ≡ crc_of p
-crc_whole p =
-    ap (λ (x : ℕ). bit_xor x (check_field p)) (whole p)
-    ∙ xor_assoc (crc_of p) (check_field p) (check_field p)
-    ∙ ap (bit_xor (crc_of p)) (xor_self (check_field p))
-    ∙ xor_zero_r (crc_of p)
+crc_whole p = grind (arith, whole, xor_assoc, xor_self, xor_zero_r)

@@ -1,4 +1,4 @@
-use Rattle.std.proofs.Common.{ℕ, List, [], ◌∷◌, ◌≡◌, rules, tests, refl, sym, ap, ◌∙◌}
+use Rattle.std.proofs.Common.{ℕ, List, [], ◌∷◌, ◌≡◌, rules, tests, refl, ◌∙◌, arith}
 use Rattle.std.specs.List.{fold}
 use Rattle.std.proofs.lemmas.Iterator.{YieldsList-from_slice}
 use Rattle.std.proofs.lemmas.Iterator.Consumers.{fold_from_yields_List}
@@ -9,10 +9,10 @@ use Rattle.crc10.proofs.remainder_of.Goals as goal
 
 by_octets : (r : ℕ) (os : List ℕ) → fold (λ rest o. divide_on rest (octet_bits o)) r os ≡ divide_on r (bits os)
 by_octets r [] = refl
-by_octets r (o ∷ os) = by_octets (divide_on r (octet_bits o)) os ∙ sym (divide_append r (octet_bits o) (bits os))
+by_octets r (o ∷ os) = grind (arith, by_octets (divide_on r (octet_bits o)) os, divide_append)
 
 pub returns : goal.returns
 returns c =
     fold_from_yields_List _ (λ rest o. divide_on rest (octet_bits o)) _ _ c.fold.ensures.ran
     (YieldsList-from_slice c.args.octets.now cc) (λ a x b q k. search (rules, tests))
-    ∙ by_octets c.zero.result c.args.octets.now ∙ ap (λ (r : ℕ). divide_on r (bits c.args.octets.now)) c.zero.ensures
+    ∙ rw c.zero.ensures (by_octets 0 c.args.octets.now)
