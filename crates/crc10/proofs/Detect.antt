@@ -1,7 +1,6 @@
 -- What the check finds. Assumes nothing.
-use Rattle.std.proofs.Common.{◌≡◌, ℕ, zero, suc, ◌+◌, ◌/◌, ◌%◌, ◌^◌, ◌<◌, ◌≤◌, Bool, true, false, not, ◌||◌, eqb, leb, ◌≢◌, List, [], ◌∷◌, length, drop, sym, refl, ap, ◌∙◌, subst, ap₂, inl, inr, arith, pow_mono}
-use lib.Bits.{bit_xor}
-use Rattle.std.proofs.lemmas.Bool.{and_parts, or_cases, cases_eq, eqb-true, eqb-false, leb-true, ne_eqb, not-true}
+use Rattle.std.proofs.Common.{◌≡◌, ℕ, zero, suc, ◌+◌, ◌/◌, ◌%◌, ◌^◌, ◌<◌, ◌≤◌, Bool, true, false, not, ◌||◌, eqb, ◌≢◌, List, [], ◌∷◌, length, drop, refl, ap, arith, pow_mono, bit_xor}
+use Rattle.std.proofs.lemmas.Bool.{eqb-true}
 use Rattle.crc10.specs.Division.{coefficient, bring_down, divide_on, remainder}
 use Rattle.crc10.specs.Check.{bits}
 use Rattle.crc10.specs.Changes.{differences, changed, ones, from_first, few, odd, burst, ChangesAreFound}

@@ -1,5 +1,5 @@
 -- A payload's last two octets: the check field in them, and what stays as it is where only its ten bits change. Assumes nothing.
-use Rattle.std.proofs.Common.{◌≡◌, ℕ, suc, ◌+◌, ◌-◌, ◌*◌, ◌/◌, ◌%◌, ◌<◌, ◌≤◌, Bool, false, eqb, List, [], ◌∷◌, ◌++◌, length, get_or, take, drop, replicate, sym, refl, ap, ◌∙◌, ap₂, zero-add, arith, length-append, take-append-drop, shr-shr}
+use Rattle.std.proofs.Common.{◌≡◌, ℕ, suc, ◌+◌, ◌-◌, ◌*◌, ◌/◌, ◌%◌, ◌<◌, ◌≤◌, Bool, false, eqb, List, [], ◌∷◌, ◌++◌, length, get_or, take, drop, replicate, sym, refl, ap, ◌∙◌, ap₂, arith, length-append, take-append-drop, shr-shr}
 use Rattle.std.proofs.lemmas.Grind.{common_steps}
 use Rattle.std.proofs.lemmas.List.{drop_more, drop_all}
 use Rattle.std.proofs.lemmas.Bool.{eqb-true}
@@ -49,12 +49,9 @@ field_one [] e h = absurd (omega arith)
 field_one (o ∷ []) e h = grind (arith, number_octet 0 o)
 field_one (o ∷ v ∷ os) e h = absurd (omega arith)
 
-last_two : (p : List ℕ) (n m : ℕ) → n + 1 ≡ m → m + 1 ≡ length p → p ≡ take n p ++ (get_or p n 0 ∷ get_or p m 0 ∷ [])
-last_two p n m e f = grind (arith, common_steps, take-append-drop, drop_more, drop_all)
-
 pub field_two : (p : List ℕ) (n m : ℕ) → n + 1 ≡ m → m + 1 ≡ length p → get_or p n 0 < 256 → get_or p m 0 < 256
     → check_field p ≡ get_or p n 0 % 4 * 256 + get_or p m 0
-field_two p n m e f hz hw = grind (arith, last_two p n m e f, field_end (take n p) (get_or p n 0) (get_or p m 0) hz hw)
+field_two p n m e f hz hw = grind (arith, common_steps, take-append-drop, drop_more, drop_all, field_end (take n p) (get_or p n 0) (get_or p m 0) hz hw)
 
 -- ---- the checked bits
 

@@ -1,7 +1,8 @@
 -- Long division is division with remainder: there is a quotient, and the remainder is the only one. Assumes nothing.
-use Rattle.std.proofs.Common.{◌≡◌, ℕ, zero, suc, ◌+◌, ◌*◌, ◌/◌, ◌^◌, ◌<◌, Bool, true, false, eqb, List, [], ◌∷◌, ◌++◌, length, replicate, sym, refl, ap, ◌∙◌, subst, ap₂, add-zero, mul_assoc, mul_comm, add-mul, pow-suc, zero-add, zero-mul, arith, length-append, pow_pos, pow-add}
-use lib.Bits.{bit_xor, xor_assoc, xor_comm, xor_self, xor_shifted, xor_zero_r, xor_lt, xor_block}
-use lib.ListN.{length-replicate}
+use Rattle.std.proofs.Common.{◌≡◌, ℕ, zero, suc, ◌+◌, ◌*◌, ◌/◌, ◌^◌, ◌<◌, Bool, true, false, eqb, List, [], ◌∷◌, ◌++◌, length, replicate, sym, refl, ap, ◌∙◌, pow-suc, zero-mul, arith, length-append, pow_pos, pow-add, bit_xor}
+use Rattle.std.specs.Int.Bits.{xor_assoc, xor_self, xor_shifted, xor_zero_r}
+use Rattle.std.proofs.lemmas.Nat.{xor_block, xor_comm, xor_lt}
+use Rattle.std.proofs.lemmas.List.{length-replicate}
 use Rattle.crc10.specs.Division.{generator, coefficient, reduced, divide_on, remainder, number, number_on, product, Leaves, Divides}
 use Rattle.crc10.specs.Changes.{unlike, differences}
 use Rattle.crc10.proofs.Laws.{taken, bring_lt, divide_lt, coefficient_lt, xor_swap}
@@ -30,10 +31,6 @@ top zero h = refl
 top (suc zero) h = refl
 top (suc (suc c)) h = absurd (omega arith)
 
--- x + (y + x) = y
-xor_back : (x y : ℕ) → bit_xor x (bit_xor y x) ≡ y
-xor_back x y = grind (arith, xor_comm, xor_assoc, xor_self)
-
 abbrev Quotient : ℕ → List Bool → Type 0
 Quotient r bs = (q : List Bool) × (length q ≡ length bs) × (number_on r bs ≡ bit_xor (product q generator) (divide_on r bs))
 
@@ -46,7 +43,7 @@ quotient r (b ∷ bs) h =
     let s : ℕ = reduced t in
     let k : ℕ = 2 ^ length bs in
     let ih = quotient s bs (bring_lt r b h) in
-    let et : t ≡ bit_xor (c * generator) s = grind (arith, taken t (omega arith), xor_back (c * generator) t) in (
+    let et : t ≡ bit_xor (c * generator) s = grind (arith, taken t (omega arith), xor_comm, xor_assoc, xor_self) in (
       eqb c 1 ∷ ih.0,
       ap suc ih.1,
       cc (number_split t bs, et, shl_xor (c * generator) s (length bs), xor_assoc (c * generator * k) (s * k) (number bs), number_split s bs, ih.2, xor_assoc (c * generator * k) (product ih.0 generator) (divide_on s bs), top c (omega arith), ih.1),
@@ -92,16 +89,18 @@ product_xor [] (y ∷ ys) e = absurd (omega arith)
 product_xor (x ∷ xs) [] e = absurd (omega arith)
 product_xor (x ∷ xs) (y ∷ ys) e =
     let f : length xs ≡ length ys = omega arith in
-    cc (length_same xs ys f, coefficient_times x y (2 ^ length xs), f, product_xor xs ys f,
-    xor_swap (coefficient x * generator * 2 ^ length xs) (coefficient y * generator * 2 ^ length ys) (product xs generator) (product ys generator))
+    cc (
+      length_same xs ys f,
+      coefficient_times x y (2 ^ length xs),
+      f,
+      product_xor xs ys f,
+      xor_swap (coefficient x * generator * 2 ^ length xs) (coefficient y * generator * 2 ^ length ys) (product xs generator) (product ys generator),
+    )
 
 -- zeros in front change no product
 padded : (n : ℕ) (q : List Bool) → product (replicate n false ++ q) generator ≡ product q generator
 padded zero q = refl
 padded (suc n) q = grind (arith, padded n q, zero-mul)
-
-length_padded : (n : ℕ) (q : List Bool) → length (replicate n false ++ q) ≡ n + length q
-length_padded n q = grind (arith, length-append, length-replicate)
 
 same_left : (a b r s : ℕ) → bit_xor a r ≡ bit_xor b s → bit_xor a b ≡ bit_xor r s
 same_left a b r s e = xor_cancel _ _ (grind (arith, xor_swap a b r s, xor_self))
@@ -111,7 +110,7 @@ only p r l =
     let m = leaves p in
     let xs : List Bool = replicate (length m.0) false ++ l.0 in
     let ys : List Bool = replicate (length l.0) false ++ m.0 in
-    let ls : length xs ≡ length ys = grind (arith, length_padded) in
+    let ls : length xs ≡ length ys = grind (arith, length-append, length-replicate) in
     let e : product (differences xs ys) generator ≡ bit_xor r (remainder p) =
     cc (product_xor xs ys ls, padded (length m.0) l.0, padded (length l.0) m.0, same_left (product l.0 generator) (product m.0 generator) r (remainder p) (sym l.1 ∙ m.1)) in
     xor_cancel r (remainder p) (grind (arith, e, multiple (differences xs ys), xor_lt 10 r (remainder p) l.2 m.2))

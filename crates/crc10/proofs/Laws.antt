@@ -1,7 +1,8 @@
 -- The laws of the division: a remainder has degree below 10, bits can be divided in parts, and the remainder of a sum is the sum of
 -- the remainders. Assumes nothing.
-use Rattle.std.proofs.Common.{◌≡◌, ℕ, zero, suc, ◌+◌, ◌*◌, ◌/◌, ◌<◌, Bool, true, false, eqb, ltb, List, [], ◌∷◌, ◌++◌, length, sym, refl, ap, ◌∙◌, ap₂, arith}
-use lib.Bits.{bit_xor, xor_lt, xor_shr, xor_block, xor_assoc, xor_comm}
+use Rattle.std.proofs.Common.{◌≡◌, ℕ, zero, suc, ◌+◌, ◌*◌, ◌/◌, ◌<◌, Bool, true, false, eqb, ltb, List, [], ◌∷◌, ◌++◌, length, refl, ap, ◌∙◌, arith, bit_xor}
+use Rattle.std.specs.Int.Bits.{xor_assoc}
+use Rattle.std.proofs.lemmas.Nat.{xor_block, xor_comm, xor_lt, xor_shr}
 use Rattle.std.proofs.lemmas.Bool.{ltb-true, eqb-true}
 use Rattle.crc10.specs.Division.{generator, coefficient, reduced, bring_down, divide_on}
 use Rattle.crc10.specs.Changes.{unlike, differences}

@@ -1,6 +1,6 @@
 -- Division by whole octets, through the table. Assumes nothing.
-use Rattle.std.proofs.Common.{◌≡◌, ℕ, ◌+◌, ◌*◌, ◌/◌, ◌%◌, ◌<◌, Bool, true, false, eqb, List, get_or, replicate, sym, refl, ap, ◌∙◌, ap₂, subst, arith}
-use lib.Bits.{bit_xor, xor_assoc, xor_shifted}
+use Rattle.std.proofs.Common.{◌≡◌, ℕ, ◌+◌, ◌*◌, ◌/◌, ◌%◌, ◌<◌, Bool, true, false, eqb, List, get_or, replicate, sym, refl, subst, arith, bit_xor}
+use Rattle.std.specs.Int.Bits.{xor_assoc, xor_shifted}
 use Rattle.std.proofs.lemmas.Bool.{eqb-true}
 use Rattle.crc10.specs.Division.{divide_on, remainder}
 use Rattle.crc10.specs.Check.{octet_bits, crc}

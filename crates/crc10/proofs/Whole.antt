@@ -1,10 +1,10 @@
 -- The remainder of a whole payload is its CRC plus its check field, so the check is right exactly where nothing remains.
 -- Assumes nothing.
-use Rattle.std.proofs.Common.{◌≡◌, ℕ, zero, suc, ◌+◌, ◌-◌, ◌*◌, ◌^◌, ◌<◌, ◌≤◌, Bool, true, false, eqb, ltb, List, [], ◌∷◌, length, drop, replicate, sym, refl, ap, ◌∙◌, ap₂, inl, inr, pow-suc, arith, length-drop, take-append-drop, pow_mono}
-use lib.Bits.{bit_xor, xor_assoc, xor_self, xor_zero_r}
-use lib.ListN.{length-replicate}
-use Rattle.std.proofs.lemmas.Bool.{lt-ltb, cond-true, cases_eq, eq-eqb, ne_eqb}
-use Rattle.crc10.specs.Division.{generator, coefficient, bring_down, divide_on, remainder, number_on}
+use Rattle.std.proofs.Common.{◌≡◌, ℕ, zero, suc, ◌+◌, ◌-◌, ◌*◌, ◌^◌, ◌<◌, ◌≤◌, Bool, true, false, eqb, ltb, List, [], ◌∷◌, length, drop, replicate, sym, refl, ◌∙◌, pow-suc, arith, length-drop, take-append-drop, pow_mono, bit_xor}
+use Rattle.std.specs.Int.Bits.{xor_assoc, xor_self, xor_zero_r}
+use Rattle.std.proofs.lemmas.List.{length-replicate}
+use Rattle.std.proofs.lemmas.Bool.{lt-ltb, cond-true}
+use Rattle.crc10.specs.Division.{coefficient, bring_down, divide_on, remainder, number_on}
 use Rattle.crc10.specs.Check.{octet_bits, bits, checked, check_field, crc_of, right}
 use Rattle.crc10.specs.Changes.{differences}
 use Rattle.crc10.proofs.Laws.{coefficient_lt, divide_lt, divide_append, divide_xor}
@@ -54,19 +54,19 @@ whole (o ∷ v ∷ os) =
     let n : ℕ = length (bits p) - 10 in
     let l = length_bits os in
     let e : length (drop n (bits p)) ≡ 10 = length-drop n (bits p) ∙ omega arith in
-    cc (take-append-drop n (bits p), divide_append 0 (checked p) (drop n (bits p)),
-    divide_split (remainder (checked p)) 10 (drop n (bits p)) e (divide_lt 0 (checked p) (omega arith)),
-    divide_append 0 (checked p) (replicate 10 false), divide_small 0 0 (drop n (bits p)) (omega arith) (omega arith))
+    cc (
+      take-append-drop n (bits p),
+      divide_append 0 (checked p) (drop n (bits p)),
+      divide_split (remainder (checked p)) 10 (drop n (bits p)) e (divide_lt 0 (checked p) (omega arith)),
+      divide_append 0 (checked p) (replicate 10 false),
+      divide_small 0 0 (drop n (bits p)) (omega arith) (omega arith),
+    )
 
 pub xor_cancel : (a b : ℕ) → bit_xor a b ≡ 0 → a ≡ b
 xor_cancel a b e = sym (xor_zero_r a) ∙ cc (xor_assoc a a b, xor_self a)
 
--- two numbers are the same exactly where their sum is 0
-same_xor : (a b : ℕ) → eqb (bit_xor a b) 0 ≡ eqb b a
-same_xor a b = grind (arith, xor_cancel, xor_self)
-
 pub right_whole : (p : List ℕ) → eqb (remainder (bits p)) 0 ≡ right p
-right_whole p = rw (whole p) (same_xor (crc_of p) (check_field p))
+right_whole p = grind (arith, whole p, xor_cancel, xor_self)
 
 pub crc_whole : (p : List ℕ) → bit_xor (remainder (bits p)) (check_field p) ≡ crc_of p
 crc_whole p = grind (arith, whole, xor_assoc, xor_self, xor_zero_r)
