@@ -33,14 +33,8 @@ bring_parity r false h =
 
 divide_parity : (r : ℕ) (bs : List Bool) → r < 1024 → weight (divide_on r bs) % 2 ≡ (weight r + ones bs) % 2
 divide_parity r [] h = omega arith
-divide_parity r (true ∷ bs) h =
-    let e = divide_parity (bring_down r true) bs (bring_lt r true h) in
-    let f = bring_parity r true h in
-    omega arith
-divide_parity r (false ∷ bs) h =
-    let e = divide_parity (bring_down r false) bs (bring_lt r false h) in
-    let f = bring_parity r false h in
-    omega arith
+divide_parity r (true ∷ bs) h = omega (arith, divide_parity (bring_down r true) bs (bring_lt r true h), bring_parity r true h)
+divide_parity r (false ∷ bs) h = omega (arith, divide_parity (bring_down r false) bs (bring_lt r false h), bring_parity r false h)
 
 weight_zero : weight 0 ≡ 0
 unfolding weight

@@ -2,8 +2,8 @@
 #![tactic(auto)]
 
 ghost use Rattle.std.specs.Prelude.{◌≡◌, ◌+◌, ◌*◌, ◌%◌, ◌<◌};
-ghost use Rattle.crc10.specs.Division.{remainder, divide_on, Divides};
-ghost use Rattle.crc10.specs.Check.{bits, octet_bits, check_field, crc_of, right, Published};
+ghost use Rattle.crc10.specs.Division.{remainder, Divides};
+ghost use Rattle.crc10.specs.Check.{bits, check_field, crc_of, right, Published};
 ghost use Rattle.crc10.specs.Changes.{ChangesAreFound};
 
 mod remainder;
@@ -24,7 +24,7 @@ fn remainder_of(octets: &[u8]) -> Remainder
 {
     octets
         .iter()
-        .fold(Remainder::zero(), |rest, octet| rest.after(*octet))
+        .fold(Remainder::zero(), |rest, &octet| rest.after(octet))
 }
 
 // The number in a payload's last ten bits, or in all of its bits where it has fewer.

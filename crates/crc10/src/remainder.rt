@@ -1,5 +1,5 @@
 // Division octet by octet.
-ghost use Rattle.std.specs.Prelude.{◌≡◌, ◌<◌};
+ghost use Rattle.std.specs.Prelude.{◌≡◌};
 ghost use Rattle.crc10.specs.Division.{divide_on};
 ghost use Rattle.crc10.specs.Check.{octet_bits};
 
@@ -43,8 +43,7 @@ impl Remainder {
     }
 
     pub fn get(self) -> u16
-        ensures value { result ≡ self }
-        ensures below { result < 1024 }
+        ensures { result ≡ self }
     {
         self.value
     }
