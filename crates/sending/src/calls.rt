@@ -28,17 +28,11 @@ impl<K: Kind> Sender<K> {
 
     // An event at a time: it ends what was due of an earlier one, and its message is in force. Whatever is called on a new
     // stream, what it sends is lawful.
+    #[tactic(auto, using(crate::proofs::Histories::sends_lawfully))]
     pub fn event(&mut self, time: u64, message: K::Message) -> Result<(), Refusal>
         ensures value { result ≡ (event self.old time message).0 }
         ensures after { self.new ≡ (event self.old time message).1 }
         ensures lawful { SendsLawfully K.Kind.model }
-    {
-        self.accept(time, message)
-    }
-
-    fn accept(&mut self, time: u64, message: K::Message) -> Result<(), Refusal>
-        ensures value { result ≡ (event self.old time message).0 }
-        ensures after { self.new ≡ (event self.old time message).1 }
     {
         let time = Time::new(time).ok_or(SendingFault::TimeOutOfRange)?;
         self.check_event(time)?;
@@ -70,19 +64,12 @@ impl<K: Kind> Sender<K> {
 
     // What is due at a time: the first unsent packet whose moment has come is written to the start of `out`, and its length
     // is answered. Called at every millisecond after an event, it sends each packet at its moment.
+    #[tactic(auto, using(crate::proofs::Milliseconds::keeps_its_moments))]
     pub fn due(&mut self, time: u64, out: &mut [u8]) -> Result<Option<usize>, Refusal>
         ensures value { result ≡ counted (due K.Kind.model self.old time (length out.old)).0 }
         ensures after { self.new ≡ (due K.Kind.model self.old time (length out.old)).1 }
         ensures octets { out.new ≡ put out.old (due K.Kind.model self.old time (length out.old)).0 }
         ensures moments { KeepsItsMoments K.Kind.model }
-    {
-        self.send_due(time, out)
-    }
-
-    fn send_due(&mut self, time: u64, out: &mut [u8]) -> Result<Option<usize>, Refusal>
-        ensures value { result ≡ counted (due K.Kind.model self.old time (length out.old)).0 }
-        ensures after { self.new ≡ (due K.Kind.model self.old time (length out.old)).1 }
-        ensures octets { out.new ≡ put out.old (due K.Kind.model self.old time (length out.old)).0 }
     {
         let time = Time::new(time).ok_or(SendingFault::TimeOutOfRange)?;
         self.check_due(time, out.len())?;
