@@ -3,6 +3,7 @@ use Rattle.std.specs.Prelude.{ℕ, Bool, cond, List, [], ◌∷◌, Some, None, 
 use Rattle.std.specs.Option.{ok_or}
 use Rattle.refusal.specs.Questions.{asked}
 use Rattle.type3.specs.Kinds.{Meaning}
+use Rattle.examples.specs.declared.wide.NoMark.{NoMark}
 use Rattle.examples.specs.declared.wide.Mark.{Mark}
 use Rattle.examples.specs.declared.wide.Mark.TheVariants.{One, Two, Three}
 
@@ -13,6 +14,9 @@ code_of Three = 3
 
 abbrev pub mark_by : ℕ → Option Mark
 mark_by n = cond (n == 1) (Some One) (cond (n == 2) (Some Two) (cond (n == 3) (Some Three) None))
+
+abbrev pub no_mark : NoMark
+no_mark = record {}
 
 -- Marks one and two are refreshed, as late as any message may be.
 abbrev pub gap_of : Mark → Option ℕ

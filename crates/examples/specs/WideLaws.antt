@@ -1,10 +1,13 @@
 -- The laws of the kind at every limit. Assumes nothing.
-use Rattle.std.specs.Prelude.{◌≡◌, ℕ, ◌<◌, ◌≤◌, true, List, [], ◌∷◌, length, Some, Ok, ◌==◌, slice_index, refl}
-use Rattle.std.proofs.Common.{arith}
+use Rattle.std.specs.Prelude.{◌≡◌, ◌↔◌, ℕ, ◌+◌, ◌<◌, ◌≤◌, true, List, [], ◌∷◌, length, Some, Ok, ◌==◌, slice_index, refl}
+use Rattle.std.proofs.Common.{ap, sym, ◌∙◌, arith}
+use denote.Enum.Bare.{sameb, true_same}
+use denote.Enum.Declared.{tag_of}
 use Rattle.std.proofs.lemmas.Bool.Decides.{nat_tests}
-use Rattle.std.proofs.lemmas.Bool.{eq-eqb}
+use Rattle.std.proofs.lemmas.Bool.{eqb-true, eq-eqb}
 use Rattle.type3.specs.Kinds.{Lawful}
 use Rattle.examples.specs.Wide.{wide, code_of, mark_by, gap_of, read_eight}
+use Rattle.examples.specs.contracts.wide.Mark.{the_type}
 use Rattle.examples.specs.declared.wide.Mark.{Mark}
 use Rattle.examples.specs.declared.wide.Mark.TheVariants.{One, Two, Three}
 
@@ -62,3 +65,17 @@ wide_lawful = record {
   alike = alike;
   itself = λ m. eq-eqb (code_of m) (code_of m) refl;
 }
+
+-- `==` of the program
+tag_is : (m : Mark) → tag_of the_type m + 1 ≡ code_of m
+tag_is One = refl
+tag_is Two = refl
+tag_is Three = refl
+
+equal_same : (m n : Mark) → sameb the_type m n ≡ true → m ≡ n
+equal_same m n h =
+    let e : code_of m ≡ code_of n = sym (tag_is m) ∙ ap (λ t. t + 1) (eqb-true _ _ h) ∙ tag_is n in
+    alike m n (eq-eqb _ _ e)
+
+pub marks_compare : (m n : Mark) → (sameb the_type m n ≡ true) ↔ (m ≡ n)
+marks_compare m n = (equal_same m n, true_same the_type m n)

@@ -31,35 +31,26 @@ fn octet_of(pair: &[u8]) -> Option<u8>
 
 // The octets of a text of two digits for each, or of `-` for none.
 pub fn octets_of(heap: Global, text: &str) -> Result<Option<Vec<u8>>, AllocError> {
-    let mut octets = Vec::new(heap);
-    if text == "-" {
-        return Ok(Some(octets));
+    match text {
+        "" => Ok(None),
+        "-" => Ok(Some(Vec::new(heap))),
+        _ => text.as_bytes().chunks(2).map(octet_of).collect(heap),
     }
-    if text.is_empty() {
-        return Ok(None);
-    }
-    for pair in text.as_bytes().chunks(2) {
-        let Some(octet) = octet_of(pair) else {
-            return Ok(None);
-        };
-        octets.push(octet)?;
-    }
-    Ok(Some(octets))
 }
 
-// Shows the first so many octets, two digits for each, with blanks between them.
-pub fn show_octets<W: fmt::Write>(
-    octets: &[u8],
-    count: usize,
-    f: &mut fmt::Formatter<W>,
-) -> fmt::Result {
-    let mut first = true;
-    for octet in octets.iter().take(count) {
-        if !first {
-            write!(f, " ")?;
+// Octets that are shown by two digits for each, with blanks between them.
+#[derive(Drop)]
+pub struct Hex<'a>(pub &'a [u8]);
+
+impl<'a> fmt::Display for Hex<'a> {
+    fn fmt<W: fmt::Write>(&self, f: &mut fmt::Formatter<W>) -> fmt::Result {
+        let [first, rest @ ..] = self.0 else {
+            return Ok(());
+        };
+        write!(f, "{first:02X}")?;
+        for octet in rest {
+            write!(f, " {octet:02X}")?;
         }
-        write!(f, "{octet:02X}")?;
-        first = false;
+        Ok(())
     }
-    Ok(())
 }

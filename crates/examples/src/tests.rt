@@ -2,8 +2,9 @@
 use crate::wide::{Mark, Wide};
 use crc10::crc_of;
 use kinds::cas::{Cas, CasBits};
-use kinds::digit::{DTMF, Digit};
+use kinds::digit::Digit;
 use kinds::digits::Digits;
+use kinds::system::System;
 use std::test::Fail;
 use type3::bounded::{Redundancy, Stamp};
 use type3::payload::Payload;
@@ -25,12 +26,8 @@ const ALL_BITS: CasBits = CasBits {
 };
 
 fn payload<T: Copy>(redundancy: u8, stamp: u16, message: T) -> Result<Payload<T>, Fail> {
-    let Some(redundancy) = Redundancy::new(redundancy) else {
-        return Err(Fail::new("no redundancy"));
-    };
-    let Some(stamp) = Stamp::new(stamp) else {
-        return Err(Fail::new("no stamp"));
-    };
+    let redundancy = Redundancy::new(redundancy).ok_or_else(|| Fail::new("no redundancy"))?;
+    let stamp = Stamp::new(stamp).ok_or_else(|| Fail::new("no stamp"))?;
     Ok(Payload {
         redundancy,
         stamp,
@@ -70,7 +67,7 @@ fn all_bits_of_a_late_refresh(rt: HostRuntime) -> Result<(), Fail> {
 
 #[test]
 fn key_zero_at_full_level(rt: HostRuntime) -> Result<(), Fail> {
-    let digit = Digit::new(DTMF, 0, 0)?;
+    let digit = Digit::new(System::Dtmf.into(), 0, 0)?;
     let mut octets = [0; 6];
     assert_eq!(rt;
         write_payload::<Digits>(payload(0, 0, digit)?, &mut octets)?,
@@ -105,12 +102,9 @@ fn five_zero_octets(rt: HostRuntime) {
 fn four_wrong_bits_pass(rt: HostRuntime) -> Result<(), Fail> {
     let sent = [0x00u8, 0x00, 0x00, 0x00, 0x0a, 0x55];
     let came = [0x00u8, 0x00, 0x00, 0x08, 0x0a, 0x46];
-    let mut changed = 0;
-    for place in 0..6 {
-        changed = (sent[place] ^ came[place])
-            .count_ones()
-            .saturating_add(changed);
-    }
+    let changed = sent.iter().zip(&came).fold(0u32, |changed, (sent, came)| {
+        changed.saturating_add((sent ^ came).count_ones())
+    });
     assert_eq!(rt; changed, 4);
     let read = read_payload::<Digits>(&came)?;
     assert_eq!(rt; read.message.code(), 8);

@@ -1,8 +1,11 @@
 // A made-up kind at every limit that a kind has: the greatest message type, the longest body and the longest gap. Nothing that
 // is generic knows more of digits or signalling bits than of this.
 ghost use Rattle.std.specs.Prelude.{◌≡◌};
-ghost use Rattle.examples.specs.Wide.{wide, code_of, mark_by};
-ghost use Rattle.examples.specs.WideLaws.{wide_lawful};
+ghost use Rattle.std.specs.Option.{ok_or};
+ghost use Rattle.refusal.specs.declared.Refusal.TheVariants.{Kind as OfKind};
+ghost use Rattle.refusal.specs.declared.KindFault.TheVariants.{Body};
+ghost use Rattle.examples.specs.Wide.{wide, code_of, mark_by, no_mark};
+ghost use Rattle.examples.specs.WideLaws.{wide_lawful, marks_compare};
 
 use refusal::{KindFault, Refusal};
 use type3::kind::Kind;
@@ -14,25 +17,41 @@ pub enum Mark {
     Three,
 }
 
-impl Mark {
-    pub fn code(self) -> u8
-        ensures { result ≡ code_of self }
-    {
-        match self {
+// Why eight octets are no mark: one that is to be zero is not, or no mark has the code.
+#[derive(Clone, Copy, Debug, PartialEq, Eq)]
+pub struct NoMark;
+
+impl From<NoMark> for Refusal {
+    ghost from_gives = { λ _ refusal. refusal ≡ OfKind (Body 9) };
+
+    fn from(_why: NoMark) -> Refusal {
+        KindFault::Body(9).into()
+    }
+}
+
+impl From<Mark> for u8 {
+    ghost from_gives = { λ mark code. code ≡ code_of mark };
+
+    fn from(mark: Mark) -> u8 {
+        match mark {
             Mark::One => 1,
             Mark::Two => 2,
             Mark::Three => 3,
         }
     }
+}
 
-    pub fn of_code(code: u8) -> Option<Mark>
-        ensures { result ≡ mark_by code }
-    {
+impl TryFrom<u8> for Mark {
+    type Error = NoMark;
+
+    ghost try_from_gives = { λ code made. made ≡ ok_or (mark_by code) no_mark };
+
+    fn try_from(code: u8) -> Result<Mark, NoMark> {
         match code {
-            1 => Some(Mark::One),
-            2 => Some(Mark::Two),
-            3 => Some(Mark::Three),
-            _ => None,
+            1 => Ok(Mark::One),
+            2 => Ok(Mark::Two),
+            3 => Ok(Mark::Three),
+            _ => Err(NoMark),
         }
     }
 }
@@ -46,6 +65,8 @@ impl Kind for Wide {
 
     ghost lawful = { wide_lawful };
 
+    ghost compares = { marks_compare };
+
     fn message_type() -> u8 {
         63
     }
@@ -55,7 +76,7 @@ impl Kind for Wide {
     }
 
     fn write_body(message: Mark, out: &mut [u8]) {
-        out.copy_from_slice(&[0, 0, 0, 0, 0, 0, 0, message.code()]);
+        out.copy_from_slice(&[0, 0, 0, 0, 0, 0, 0, message.into()]);
     }
 
     // Mark three is not refreshed.
@@ -68,15 +89,8 @@ impl Kind for Wide {
 
     fn read_body(octets: &[u8]) -> Result<Mark, Refusal> {
         let [0, 0, 0, 0, 0, 0, 0, code] = octets else {
-            return Err(Refusal::Kind(KindFault::Body(9)));
+            return Err(NoMark.into());
         };
-        match Mark::of_code(*code) {
-            Some(mark) => Ok(mark),
-            None => Err(Refusal::Kind(KindFault::Body(9))),
-        }
-    }
-
-    fn same(one: Mark, other: Mark) -> bool {
-        one.code() == other.code()
+        Ok(Mark::try_from(*code)?)
     }
 }

@@ -1,5 +1,7 @@
 // Channel-associated signalling as a kind of message: four bits in one octet.
 ghost use Rattle.std.specs.Prelude.{◌≡◌};
+ghost use Rattle.refusal.specs.declared.Refusal.TheVariants.{Kind as OfKind};
+ghost use Rattle.refusal.specs.declared.KindFault.TheVariants.{Body};
 ghost use Rattle.kinds.specs.Cas.{cas, octet};
 ghost use Rattle.kinds.specs.CasLaws.{cas_lawful, cas_compare};
 
@@ -20,6 +22,18 @@ impl CasBits {
         ensures { result ≡ octet self }
     {
         u8::from(self.a) * 8 + u8::from(self.b) * 4 + u8::from(self.c) * 2 + u8::from(self.d)
+    }
+}
+
+// Why an octet has no signalling bits: one of its upper four is set.
+#[derive(Clone, Copy, Debug, PartialEq, Eq)]
+pub struct NoBits;
+
+impl From<NoBits> for Refusal {
+    ghost from_gives = { λ _ refusal. refusal ≡ OfKind (Body 1) };
+
+    fn from(_why: NoBits) -> Refusal {
+        KindFault::Body(1).into()
     }
 }
 
@@ -57,7 +71,7 @@ impl Kind for Cas {
     fn read_body(octets: &[u8]) -> Result<CasBits, Refusal> {
         let bits = octets[0];
         if bits >= 16 {
-            return Err(Refusal::Kind(KindFault::Body(1)));
+            return Err(NoBits.into());
         }
         Ok(CasBits {
             a: bits / 8 % 2 == 1,

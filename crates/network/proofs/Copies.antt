@@ -9,7 +9,7 @@ use Rattle.profile.specs.declared.entry.Entry.{Entry}
 use Rattle.profile.specs.Questions.{refusal}
 use Rattle.profile.specs.Labels.{find, interval_of, span_of}
 use Rattle.sending.specs.Sending.{said_by, octets_of}
-use Rattle.sending.specs.declared.event.Packet.{Packet}
+use Rattle.sending.specs.declared.event.Packet.{Packet as Due}
 use Rattle.placing.specs.declared.stream.Moved.{Moved}
 use Rattle.placing.specs.declared.stream.Told.{Told}
 use Rattle.placing.specs.declared.stream.Told.TheVariants.{News, Repeat, Late}
@@ -60,7 +60,7 @@ module _ {P Q : Type 0} (p : Meaning P) (q : Meaning Q) (es : List Entry) (lp : 
   module _ (rule : carried h (it None) ≡ true) (ages : aged es h (it None) ≡ true) where
     -- ---- of a packet of a message
 
-    module _ (w : Which) (d : Packet (Of P Q w)) (few : d.redundancy < 4) (in_time : d.time ≤ 1099511627775) where
+    module _ (w : Which) (d : Due (Of P Q w)) (few : d.redundancy < 4) (in_time : d.time ≤ 1099511627775) where
       abbrev k : Meaning (Of P Q w)
       k = meaning P Q p q w
 
@@ -90,7 +90,7 @@ module _ {P Q : Type 0} (p : Meaning P) (q : Meaning Q) (es : List Entry) (lp : 
         arrive_is =
             type3_is p q es lp lq ne loads h a s profile_is heard known t uui o (Some i) rule same.0
             ∙ ap (λ x. arrive_read p q s t (read_either p q x)) same.1
-            ∙ ap (arrive_read p q s t) (read_lane P Q p q lp lq ne w said few (let l : d.time % 16384 < 16384 = omega arith in l))
+            ∙ ap (arrive_read p q s t) (read_lane P Q p q lp lq ne w said (few, (let l : d.time % 16384 < 16384 = omega arith in l)))
             ∙ arrive_lane P Q p q w s t said
 
         abbrev r : Result (Arrived P Q) Refusal

@@ -6,6 +6,7 @@ use Rattle.type3.specs.Octets.{written, read_either}
 use Rattle.type3.specs.declared.payload.Payload.{Payload}
 use Rattle.type3.specs.declared.payload.Either.{Either}
 use Rattle.type3.specs.declared.payload.Either.TheVariants as either
+use Rattle.type3.specs.Exactly.{Fits}
 use Rattle.type3.proofs.Values.{first_written, second_written}
 use Rattle.sending.specs.Sending.{Stream}
 use Rattle.placing.specs.declared.stream.Placed.{Placed}
@@ -102,10 +103,10 @@ module _ (P Q : Type 0) where
     lawful lp lq Second = lq
 
     -- a payload of a kind is read as such
-    pub read_lane : Lawful p → Lawful q → (p.message_type ≡ q.message_type → ⊥) → (w : Which) (x : Payload (Of P Q w)) → x.redundancy < 4 → x.stamp < 16384
+    pub read_lane : Lawful p → Lawful q → (p.message_type ≡ q.message_type → ⊥) → (w : Which) (x : Payload (Of P Q w)) → Fits x
         → read_either p q (written (meaning w) x) ≡ Ok (saying w x)
-    read_lane lp lq ne First x lr ls = first_written p q lp lq x lr ls
-    read_lane lp lq ne Second x lr ls = second_written p q lp lq x lr ls ne
+    read_lane lp lq ne First x fit = first_written p q lp lq x fit
+    read_lane lp lq ne Second x fit = second_written p q lp lq x fit ne
 
     -- and goes to its stream
     abbrev pub received : (w : Which) → End P Q → ℕ → Payload (Of P Q w) → Result (Told (MessageNews (Of P Q w))) Refusal × Inbound (Of P Q w)

@@ -8,7 +8,7 @@ use Rattle.type3.specs.declared.payload.Either.{Either}
 use Rattle.sending.specs.declared.event.Event.{Event}
 use Rattle.sending.specs.Sending as on
 use Rattle.sending.specs.Sending.{Stream, due_of, octets_of, due_questions, sent}
-use Rattle.sending.specs.declared.event.Packet.{Packet}
+use Rattle.sending.specs.declared.event.Packet.{Packet as Due}
 use Rattle.sending.specs.Runs as calls
 use Rattle.sending.specs.Runs.{Did, made, neither, did_event, did_due, does, step}
 use Rattle.sending.proofs.Kept.{due_is}
@@ -61,12 +61,12 @@ module _ {P Q M : Type 0} (k : Meaning M) (inj : M → Either P Q) (side : Side)
     abbrev pub due_moment : Moment P Q
     due_moment = record { side = side; call = due which t room; answer = (on.due k s t room).0 }
 
-    brings_nothing : (d : Option (Packet M)) (r : Result (Option (List ℕ)) Refusal) → brought k inj side which (did_due t d r) ≡ []
+    brings_nothing : (d : Option (Due M)) (r : Result (Option (List ℕ)) Refusal) → brought k inj side which (did_due t d r) ≡ []
     brings_nothing d (Err f) = refl
     brings_nothing None (Ok o) = refl
     brings_nothing (Some d) (Ok o) = refl
 
-    made_so : (y : Packet P Q) (d : Option (Packet M)) → due_of s t ≡ d → packets.made h side (due which t room) (sent k s t d).0 ≡ Some y
+    made_so : (y : Packet P Q) (d : Option (Due M)) → due_of s t ≡ d → packets.made h side (due which t room) (sent k s t d).0 ≡ Some y
         → gave k inj side which (did_due t d (sent k s t d).0) ≡ Some y
     made_so y None is e = none_some y e
     made_so y (Some d) is e =

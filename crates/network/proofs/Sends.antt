@@ -7,7 +7,7 @@ use Rattle.type3.specs.Octets.{redundancy_in}
 use Rattle.type3.specs.declared.payload.Either.{Either}
 use Rattle.sending.specs.declared.event.Event.{Event}
 use Rattle.sending.specs.Sending.{Stream, new_sender, later, later_than_event, octets_of}
-use Rattle.sending.specs.declared.event.Packet.{Packet}
+use Rattle.sending.specs.declared.event.Packet.{Packet as Due}
 use Rattle.sending.specs.Runs.{Call, Did, accepted, made, neither, since_from, OfEvent, does, step}
 use Rattle.sending.proofs.Turns.{each_call}
 use Rattle.sending.proofs.Kept.{Kept, kept_new, kept_on}
@@ -28,7 +28,7 @@ module _ {P Q M : Type 0} (k : Meaning M) (inj : M → Either P Q) (side : Side)
   carry e = record { time = e.time; message = inj e.message }
 
   -- the packet of what is due
-  abbrev pub packet : Packet M → Packet P Q
+  abbrev pub packet : Due M → Packet P Q
   packet d = record { time = d.time; content = message (inj d.message); uui = 24; octets = octets_of k d }
 
   -- what a call did: the event that it brought, and the packet that it made
@@ -44,7 +44,7 @@ module _ {P Q M : Type 0} (k : Meaning M) (inj : M → Either P Q) (side : Side)
 
   -- A packet tells what its side had at the time that it was made for; and that time is behind its stream.
   pub record Made (h : List (Moment P Q)) (s : Stream M) (x : Packet P Q) : Type 0 where
-    pub due : Packet M
+    pub due : Due M
     pub is : x ≡ packet due
     pub low : due.redundancy < 4
     pub in_time : due.time ≤ 1099511627775
@@ -146,10 +146,10 @@ module _ {P Q M : Type 0} (k : Meaning M) (inj : M → Either P Q) (side : Side)
 
   -- ---- a packet that is due, as the law reads it off the octets and the latest event
 
-  redundancy_is : (d : Packet M) → redundancy_in (octets_of k d) ≡ d.redundancy
+  redundancy_is : (d : Due M) → redundancy_in (octets_of k d) ≡ d.redundancy
   redundancy_is d = let e : (d.redundancy * 64 + d.time % 16384 / 256) / 64 ≡ d.redundancy = omega arith in e
 
-  pub read_off : (e : Event M) (sent : List ℕ) (t : ℕ) (d : Packet M) → OfEvent k e sent t d → of_event t (octets_of k d) (carry e) ≡ packet d
+  pub read_off : (e : Event M) (sent : List ℕ) (t : ℕ) (d : Due M) → OfEvent k e sent t d → of_event t (octets_of k d) (carry e) ≡ packet d
   read_off e sent t d of = by (cases_lt (length sent) 3)
     where
       of_time : ℕ → Packet P Q
