@@ -67,14 +67,14 @@ module _ (s : Stream Digit) (t n : ℕ) (buffer after : List ℕ) (six : length 
   reads : read digits after ≡ Ok (said_by d)
   reads =
       ap (read digits) holds
-      ∙ read_written digits digits_lawful (said_by d) (low s t s.latest d was_sent.was_due) (let h : d.time % 16384 < 16384 = omega arith in h)
+      ∙ read_written digits digits_lawful (said_by d) (low s t s.latest d was_sent.was_due, (let h : d.time % 16384 < 16384 = omega arith in h))
 
   -- so it is read, and as what was due
   pub never_refused : {X : Type 0} (f : Refusal) → Err f ≡ read digits after → X
   never_refused f e = let i : ◌≡◌ {A = Result (Payload Digit) Refusal} (Err f) (Ok (said_by d)) = e ∙ reads in never (let z : ◌≡◌ {A = ℕ} 0 1 = cc in z)
 
-  pub hears : (p : Payload Digit) → Ok (contents p) ≡ read digits after → Ok (Some (contents p)) ≡ says (due_of s t) (due digits s t (length buffer)).0
+  pub hears : (p : Payload Digit) → Ok p ≡ read digits after → Ok (Some p) ≡ says (due_of s t) (due digits s t (length buffer)).0
   hears p e =
-      let i : ◌≡◌ {A = Result (Payload Digit) Refusal} (Ok (contents p)) (Ok (said_by d)) = e ∙ reads in
-      let j : contents p ≡ said_by d = cc in
+      let i : ◌≡◌ {A = Result (Payload Digit) Refusal} (Ok p) (Ok (said_by d)) = e ∙ reads in
+      let j : p ≡ said_by d = cc in
       ap (λ c. Ok (Some c)) j ∙ sym (ap (says (due_of s t)) was_sent.answer ∙ ap (λ x. Ok (option_map said_by x)) was_sent.was_due)

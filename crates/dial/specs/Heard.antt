@@ -7,10 +7,6 @@ use Rattle.sending.specs.Sending.{said_by}
 use Rattle.sending.specs.declared.event.Packet.{Packet}
 use Rattle.kinds.specs.declared.digit.Digit.{Digit}
 
-abbrev pub heard : Result (Option (Payload Digit)) Refusal → Result (Option (Payload Digit)) Refusal
-heard (Ok p) = Ok (option_map contents p)
-heard (Err f) = Err f
-
 -- the packet that is due, unless the call is refused
 abbrev pub says : Option (Packet Digit) → Result (Option (List ℕ)) Refusal → Result (Option (Payload Digit)) Refusal
 says d (Ok o) = Ok (option_map said_by d)

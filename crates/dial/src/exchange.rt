@@ -1,9 +1,8 @@
 // One digit stream over a perfect line.
 ghost use Rattle.std.specs.Prelude.{◌≡◌};
-ghost use Rattle.sending.specs.Seen.{seen};
 ghost use Rattle.sending.specs.Sending.{due, due_of};
 ghost use Rattle.kinds.specs.Digits.{digits};
-ghost use Rattle.dial.specs.Heard.{heard, says};
+ghost use Rattle.dial.specs.Heard.{says};
 
 use kinds::digit::Digit;
 use kinds::digits::Digits;
@@ -18,14 +17,11 @@ pub fn pass(
     time: u64,
     octets: &mut [u8; 6],
 ) -> Result<Option<Payload<Digit>>, Refusal>
-    ensures hears { heard result ≡ says (due_of (seen sender.old) time) (due digits (seen sender.old) time 6).0 }
-    ensures after { seen sender.new ≡ (due digits (seen sender.old) time 6).1 }
+    ensures hears { result ≡ says (due_of sender.old time) (due digits sender.old time 6).0 }
+    ensures after { sender.new ≡ (due digits sender.old time 6).1 }
 {
     match sender.due(time, octets)? {
         None => Ok(None),
-        Some(_) => {
-            let payload = read_payload::<Digits>(octets)?;
-            Ok(Some(payload))
-        }
+        Some(_) => Ok(Some(read_payload::<Digits>(octets)?)),
     }
 }

@@ -2,18 +2,18 @@
 // of two talk spurts is labelled.
 #![tactic(auto)]
 
+use examples::hex::Hex;
 use exchange::pass;
-use kinds::digit::{DTMF, Digit, TONE_OFF};
+use kinds::digit::{Digit, TONE_OFF};
 use kinds::digits::Digits;
+use kinds::system::System;
 use refusal::Refusal;
 use sending::sender::Sender;
-use show::Octets;
 use std::env;
 use talk::talk;
 use type3::reading::read_payload;
 
 mod exchange;
-mod show;
 mod talk;
 
 // What is dialled where no argument says otherwise: two keys, a character that is no key, and a third key.
@@ -34,10 +34,8 @@ fn main(rt: HostRuntime) -> anyhow::Result<()> {
 fn run(rt: &HostRuntime) -> anyhow::Result<()> {
     let mut args = env::args(rt)?;
     let _program = args.next();
-    match args.next() {
-        Some(number) => dial(rt, number.as_str())?,
-        None => dial(rt, NUMBER)?,
-    }
+    let number = args.next();
+    dial(rt, number.as_ref().map_or(NUMBER, |number| number.as_str()))?;
     hostile(rt)?;
     talk(rt)
 }
@@ -45,16 +43,12 @@ fn run(rt: &HostRuntime) -> anyhow::Result<()> {
 // Each key of the number, and what is due until the next.
 fn dial(rt: &HostRuntime, number: &str) -> anyhow::Result<()> {
     let mut sender = Sender::<Digits>::new();
-    let mut time: u64 = 0;
-    for key in number.chars() {
+    for (place, key) in number.chars().enumerate() {
+        let time = KEY_TIME.saturating_mul(place as u64);
         match Digit::of_key(key, LEVEL) {
             Ok(digit) => press(rt, &mut sender, key, time, digit)?,
-            Err(refusal) => {
-                let number = refusal.number();
-                println!(rt; "key {key}: refused with {number}")?;
-            }
+            Err(refusal) => println!(rt; "key {key}: {refusal}")?,
         }
-        time = time.saturating_add(KEY_TIME);
     }
     Ok(())
 }
@@ -70,7 +64,7 @@ fn press(
     println!(rt; "key {key} at {time}")?;
     tone(rt, sender, time, digit, TONE_TIME)?;
     let end = time.saturating_add(TONE_TIME);
-    match Digit::new(DTMF, TONE_OFF, LEVEL) {
+    match Digit::new(System::Dtmf.into(), TONE_OFF, LEVEL) {
         Ok(off) => tone(rt, sender, end, off, KEY_TIME - TONE_TIME),
         Err(refusal) => refused(rt, refusal),
     }
@@ -97,20 +91,18 @@ fn tone(
 fn ask(rt: &HostRuntime, sender: &mut Sender<Digits>, time: u64) -> anyhow::Result<()> {
     let mut octets = [0u8; 6];
     match pass(sender, time, &mut octets) {
-        Ok(heard) => match heard {
-            Some(payload) => {
-                let sent = Octets(&octets);
-                let redundancy = payload.redundancy.get();
-                let stamp = payload.stamp.get();
-                let code = payload.message.code();
-                let level = payload.message.level();
-                println!(rt;
-                    "  {time}: {sent} reads code {code}, level {level}, redundancy {redundancy}, stamp {stamp}"
-                )?;
-                Ok(())
-            }
-            None => Ok(()),
-        },
+        Ok(Some(payload)) => {
+            let sent = Hex(&octets);
+            let redundancy = payload.redundancy.get();
+            let stamp = payload.stamp.get();
+            let code = payload.message.code();
+            let level = payload.message.level();
+            println!(rt;
+                "  {time}: {sent} reads code {code}, level {level}, redundancy {redundancy}, stamp {stamp}"
+            )?;
+            Ok(())
+        }
+        Ok(None) => Ok(()),
         Err(refusal) => refused(rt, refusal),
     }
 }
@@ -122,8 +114,7 @@ fn hostile(rt: &HostRuntime) -> anyhow::Result<()> {
 }
 
 fn read(rt: &HostRuntime, octets: &[u8]) -> anyhow::Result<()> {
-    let shown = Octets(octets);
-    println!(rt; "octets {shown}")?;
+    println!(rt; "octets {}", Hex(octets))?;
     match read_payload::<Digits>(octets) {
         Ok(_) => {
             println!(rt; "  read")?;
@@ -134,7 +125,6 @@ fn read(rt: &HostRuntime, octets: &[u8]) -> anyhow::Result<()> {
 }
 
 fn refused(rt: &HostRuntime, refusal: Refusal) -> anyhow::Result<()> {
-    let number = refusal.number();
-    println!(rt; "  refused with {number}")?;
+    println!(rt; "  {refusal}")?;
     Ok(())
 }

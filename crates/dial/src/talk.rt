@@ -1,5 +1,5 @@
 // Audio under a profile: labels count through silence.
-use profile::examples::{example_a, mixed_widths};
+use profile::examples::{Example, mixed_widths};
 use profile::load::LoadError;
 use profile::profile::Profile;
 
@@ -13,10 +13,9 @@ const PACKET_TIME: u64 = 5;
 
 // Two talk spurts with silence between them under example A, and a profile that is refused.
 pub fn talk(rt: &HostRuntime) -> anyhow::Result<()> {
-    match example_a(rt.alloc()) {
+    match Example::A.load(rt.alloc()) {
         Ok(profile) => {
-            let span = profile.span();
-            println!(rt; "example A spans {span} ms")?;
+            println!(rt; "example A spans {} ms", profile.span())?;
             for start in SPURTS {
                 spurt(rt, &profile, start)?;
             }
@@ -43,11 +42,10 @@ fn spurt(rt: &HostRuntime, profile: &Profile, start: u64) -> anyhow::Result<()> 
 fn refused(rt: &HostRuntime, error: LoadError) -> anyhow::Result<()> {
     match error {
         LoadError::Refused(refusal) => {
-            let number = refusal.number();
             let place = refusal.place().unwrap_or(0);
-            println!(rt; "profile refused with {number} at place {place}")?;
+            println!(rt; "profile {refusal} at place {place}")?;
         }
-        LoadError::Memory => println!(rt; "no memory for the profile")?,
+        LoadError::Memory => println!(rt; "{error}")?,
     }
     Ok(())
 }

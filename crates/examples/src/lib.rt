@@ -3,6 +3,7 @@
 
 pub mod bits;
 pub mod hex;
+pub mod lines;
 pub mod refused;
 #[cfg(test)]
 mod tests;

@@ -1,11 +1,17 @@
 -- A UUI and a length name at most one entry of a profile, and it is found. Assumes nothing.
-use Rattle.std.proofs.Common.{◌≡◌, ℕ, zero, suc, ◌+◌, ◌-◌, ◌*◌, ◌/◌, ◌%◌, ◌<◌, ◌≤◌, Bool, true, false, cond, List, [], ◌∷◌, take, is_some, Some, None, Option, sym, refl, ap, ◌∙◌, subst, div-add-mod', arith}
+use Rattle.std.proofs.Common.{◌≡◌, ℕ, ◌+◌, ◌-◌, ◌*◌, ◌/◌, ◌%◌, ◌<◌, ◌≤◌, true, false, not, cond, nat_lt, List, length, take, get_or, is_some, Some, None, Option, sym, refl, ap, ◌∙◌, subst, div-add-mod', arith}
 use lib.Arith.{digits_div}
 use Rattle.std.proofs.lemmas.Bool.Decides.{nat_tests}
+use Rattle.std.specs.List.{position_or_len}
+use Rattle.std.proofs.lemmas.List.{get_or-take, length-take}
+use Rattle.std.proofs.lemmas.List.Quantifiers.{position-Some}
+use Rattle.std.proofs.lemmas.List.Sums.{AllPass-from_list_all, fails_before_first}
+use Rattle.std.proofs.lemmas.Option.{slice_get-get_or, slice_get_within, get_or_from_slice_get}
 use Rattle.profile.specs.declared.entry.Entry.{Entry}
 use Rattle.profile.specs.Questions.{width, alike, differs, refusal}
-use Rattle.profile.specs.Labels.{has, find_from, find}
+use Rattle.profile.specs.Labels.{has, find}
 use Rattle.profile.specs.Guarantees.{At, Guarantees, Found}
+use Rattle.profile.proofs.Walks.{blank}
 use Rattle.profile.proofs.Sound.{ZeroOne, never, Numbers, passed_at, numbers_at, one_width, one_interval, one_span}
 
 -- a block of w numbers that begins at a multiple of w is known from each of its numbers
@@ -28,21 +34,18 @@ same_block e f uui len n m w h k =
     let long : e.length ≡ f.length = he.2 ∙ sym hf.2 in
     grind (arith, nat_tests)
 
-nth_take : (es : List Entry) (i j : ℕ) (e : Entry) → i < j → At es i e → At (take j es) i e
-nth_take [] i j e h a = let z : ZeroOne = cc in never z
-nth_take (x ∷ es) i zero e h a = absurd (let k : ⊥ = omega arith in k)
-nth_take (x ∷ es) zero (suc j) e h a = a
-nth_take (x ∷ es) (suc i) (suc j) e h a = nth_take es i j e (omega arith) a
-
-differs_at : (bs : List Entry) (e : Entry) → differs bs e ≡ true → (i : ℕ) (b : Entry) → At bs i b → alike b e ≡ false
-differs_at [] e h i b a = let z : ZeroOne = cc in never z
-differs_at (x ∷ bs) e h zero b a = let is : x ≡ b = cc in subst (λ y. alike y e ≡ false) is (grind arith)
-differs_at (x ∷ bs) e h (suc i) b a = differs_at bs e (grind arith) i b a
+-- an entry is not alike to one before it
+differs_at : (es : List Entry) (i j : ℕ) (e f : Entry) → At es i e → At es j f → i < j → differs (take j es) f ≡ true → alike e f ≡ false
+differs_at es i j e f a b lt h =
+    let within : i < length (take j es) = grind (arith, length-take j es, slice_get_within es j f b) in
+    let no = AllPass-from_list_all (λ x. not (alike x f)) (take j es) h i blank within in
+    let is : get_or (take j es) i blank ≡ e = get_or-take j es i blank lt ∙ get_or_from_slice_get es i e blank a in
+    subst (λ x. alike x f ≡ false) is (grind arith)
 
 module _ (es : List Entry) (h : is_some (refusal es) ≡ false) where
   earlier : (uui len i j : ℕ) (e f : Entry) → At es i e → At es j f → has e uui len ≡ true → has f uui len ≡ true → i < j → ⊥
   earlier uui len i j e f a b p q lt =
-      let d = differs_at (take j es) f (passed_at es h j f b).own i e (nth_take es i j e lt a) in
+      let d = differs_at es i j e f a b lt (passed_at es h j f b).own in
       let s = same_block e f uui len (numbers_at es h i e a) (numbers_at es h j f b) (one_width es h i j e f a b) p q in
       let z : ZeroOne = cc in never z
 
@@ -61,37 +64,26 @@ module _ (es : List Entry) (h : is_some (refusal es) ≡ false) where
     one_entry = one_entry;
   }
 
-module _ (uui len : ℕ) where
-  abbrev Held : List Entry → ℕ → ℕ → Type 0
-  Held es n p = (i : ℕ) × (e : Entry) × (p ≡ n + i) × At es i e × (has e uui len ≡ true)
+unplaced : (k n : ℕ) → cond (nat_lt k n) (Some k) None ≡ None → n ≤ k
+unplaced k n h = grind (arith, nat_tests)
 
-  found_from : (n : ℕ) (es : List Entry) (p : ℕ) → find_from n es uui len ≡ Some p → Held es n p
-  found_from n [] p h = let z : ZeroOne = cc in never z
-  found_from n (x ∷ es) p h = by (found_from (n + 1) es p) (has x uui len) refl h
+module _ (uui len : ℕ) (es : List Entry) (h : is_some (refusal es) ≡ false) where
+  there : (p : ℕ) → find es uui len ≡ Some p → (e : Entry) × At es p e × (has e uui len ≡ true)
+  there p k =
+      let r = position-Some (λ e. has e uui len) es p blank k in
+      (get_or es p blank, slice_get-get_or es p blank r.0, r.1)
+
+  pub found : Found es uui len (find es uui len)
+  found = record { is_there = there; is_found = λ p e a t. by (find es uui len) refl p e a t }
     where
-      by : (find_from (n + 1) es uui len ≡ Some p → Held es (n + 1) p) → (b : Bool) → has x uui len ≡ b → cond b (Some n) (find_from (n + 1) es uui len) ≡ Some p → Held (x ∷ es) n p
-      by later true is h = (0, x, (let k : n ≡ p = cc in omega arith), refl, is)
-      by later false is h = let r = later h in (suc r.0, r.1, omega (arith, r.2), r.3, r.4)
-
-  none_from : (n : ℕ) (es : List Entry) → find_from n es uui len ≡ None → (i : ℕ) (e : Entry) → At es i e → has e uui len ≡ true → ⊥
-  none_from n [] h i e a t = let z : ZeroOne = cc in never z
-  none_from n (x ∷ es) h i e a t = by (λ k j b. none_from (n + 1) es k j e b t) (has x uui len) refl h i a
-    where
-      by : (find_from (n + 1) es uui len ≡ None → (j : ℕ) → At es j e → ⊥) → (b : Bool) → has x uui len ≡ b → cond b (Some n) (find_from (n + 1) es uui len) ≡ None → (i : ℕ) → At (x ∷ es) i e → ⊥
-      by later true is h i a = let z : ZeroOne = cc in never z
-      by later false is h zero a = let same : x ≡ e = cc in let z : ZeroOne = cc (ap (λ y. has y uui len) same) in never z
-      by later false is h (suc i) a = later h i a
-
-  pub found : (es : List Entry) → is_some (refusal es) ≡ false → Found es uui len (find es uui len)
-  found es h = record { is_there = there; is_found = λ p e a t. by (find es uui len) refl p e a t }
-    where
-      there : (p : ℕ) → find es uui len ≡ Some p → (e : Entry) × At es p e × (has e uui len ≡ true)
-      there p k =
-          let r = found_from 0 es p k in
-          let is : r.0 ≡ p = omega (arith, r.2) in
-          (r.1, subst (λ q. At es q r.1) is r.3, r.4)
-
       by : (o : Option ℕ) → find es uui len ≡ o → (p : ℕ) (e : Entry) → At es p e → has e uui len ≡ true → o ≡ Some p
-      by None is p e a t = absurd (none_from 0 es is p e a t)
+      by None is p e a t =
+          let past = unplaced (position_or_len (λ x. has x uui len) es) (length es) is in
+          let no = fails_before_first (λ x. has x uui len) es p blank (omega (arith, slice_get_within es p e a, past)) in
+          let same = get_or_from_slice_get es p e blank a in
+          let z : ZeroOne = cc (ap (λ x. has x uui len) same) in never z
       by (Some q) is p e a t =
           let r = there q is in ap (λ n. Some n) (one_entry es h uui len q p r.0 e r.1 a r.2 t)
+
+  pub found_by : (r : Option ℕ) → r ≡ find es uui len → Found es uui len r
+  found_by r is = subst (λ o. Found es uui len o) (sym is) found

@@ -1,5 +1,5 @@
 -- Labels lie in their entry's range, and count time. Assumes nothing.
-use Rattle.std.proofs.Common.{◌≡◌, ℕ, ◌+◌, ◌*◌, ◌/◌, ◌%◌, ◌<◌, ◌≤◌, false, List, [], ◌∷◌, is_some, Some, None, Option, sym, refl, ap, ◌∙◌, subst, mod-lt, mul-pos, zero-add, arith}
+use Rattle.std.proofs.Common.{◌≡◌, ℕ, ◌+◌, ◌/◌, ◌%◌, ◌<◌, ◌≤◌, false, List, [], ◌∷◌, is_some, Some, None, Option, sym, refl, ap, ◌∙◌, subst, mod-lt, mul-pos, zero-add, arith}
 use native.Mathlib.Nat.{mod-mod, add-mod}
 use Rattle.std.specs.List.{slice_get}
 use Rattle.std.specs.Option.{option_map}
@@ -41,14 +41,8 @@ labelled es h place t = by (slice_get es place) refl
           subst (λ (w : ℕ). v % w ≡ t / interval_of es % w) (one_width es h place i x e is a) there;
     }
 
--- the span by the first entry
-pub span_none : (es : List Entry) → None ≡ slice_get es 0 → 0 ≡ span_of es
-span_none [] e = refl
-span_none (x ∷ es) e = let z : ZeroOne = cc in never z
-
-pub span_some : (es : List Entry) (x : Entry) → Some x ≡ slice_get es 0 → width x * x.interval ≡ span_of es
-span_some [] x e = let z : ZeroOne = cc in never z
-span_some (y ∷ es) x e = let is : x ≡ y = cc in ap (λ (z : Entry). width z * z.interval) is
+pub labelled_by : (es : List Entry) → is_some (refusal es) ≡ false → (place t : ℕ) (r : Option ℕ) → r ≡ label_at es place t → Labelled es place t r
+labelled_by es h place t r is = subst (λ o. Labelled es place t o) (sym is) (labelled es h place t)
 
 -- a profile spans some time
 pub span_positive : (es : List Entry) → is_some (refusal es) ≡ false → 0 < span_of es

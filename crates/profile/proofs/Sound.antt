@@ -1,7 +1,8 @@
 -- What follows for entries that have passed the questions. Assumes nothing.
 use Rattle.std.proofs.Common.{◌≡◌, ℕ, zero, suc, ◌+◌, ◌*◌, ◌%◌, ◌≤◌, Bool, true, false, cond, List, [], ◌∷◌, ◌++◌, length, take, is_some, Some, None, Option, sym, refl, ap, ◌∙◌, subst, ap₂, append_assoc, append-nil, arith}
 use Rattle.std.proofs.lemmas.Bool.Decides.{nat_tests}
-use Rattle.std.specs.Option.{option_or}
+use Rattle.std.specs.List.{slice_get}
+use Rattle.std.specs.Option.{option_or, IfSome}
 use Rattle.refusal.specs.Questions.{first_no, from_to}
 use Rattle.refusal.specs.declared.Refusal.{Refusal}
 use Rattle.refusal.specs.declared.Refusal.TheVariants.{Profile}
@@ -72,6 +73,10 @@ numbers before e p =
 
 pub numbers_at : (es : List Entry) → is_some (refusal es) ≡ false → (i : ℕ) (e : Entry) → At es i e → Numbers e
 numbers_at es h i e a = numbers (take i es) e (passed_at es h i e a)
+
+pub good_at : (es : List Entry) → is_some (refusal es) ≡ false → (i : ℕ) (o : Option Entry) → slice_get es i ≡ o → IfSome o (λ e. (e.first ≤ e.last) × (e.last ≤ 15) × (1 ≤ e.interval))
+good_at es h i None is = tt
+good_at es h i (Some e) is = let n = numbers_at es h i e is in (n.low, n.high, n.slow)
 
 -- ---- one width and one interval
 

@@ -1,8 +1,11 @@
 -- The example profiles, and what is known of them. Assumes nothing.
-use Rattle.std.specs.Prelude.{◌≡◌, ℕ, List, [], ◌∷◌, Some, None, Option}
+use Rattle.std.specs.Prelude.{◌≡◌, ℕ, if◌then◌else◌, List, [], ◌∷◌, codes, Some, None, Option}
+use Rattle.std.specs.Str.{bytes_eq}
 use Rattle.refusal.specs.declared.Refusal.TheVariants.{Profile}
 use Rattle.refusal.specs.declared.ProfileFault.TheVariants.{Unlike}
 use Rattle.profile.specs.declared.entry.Entry.{Entry}
+use Rattle.profile.specs.declared.examples.Example.{Example}
+use Rattle.profile.specs.declared.examples.Example.TheVariants.{A, B, C}
 use Rattle.profile.specs.Questions.{refusal}
 use Rattle.profile.specs.Labels.{find, label_at, span_of}
 
@@ -53,6 +56,18 @@ mixed_widths =
     ∷ entry (Some 2) 3 8 15 20 5
     ∷ entry None 9 0 15 1 5
     ∷ []
+
+abbrev pub entries_of : Example → List Entry
+entries_of A = example_a
+entries_of B = example_b
+entries_of C = example_c
+
+abbrev pub example_named : List ℕ → Option Example
+example_named name =
+    if bytes_eq name (codes "A") then Some A
+    else if bytes_eq name (codes "B") then Some B
+    else if bytes_eq name (codes "C") then Some C
+    else None
 
 pub record ExamplesHold : Type 0 where
   pub a_loads : refusal example_a ≡ None

@@ -1,6 +1,6 @@
 -- What a profile is used for: finding the entry of a packet, and labelling packets. Assumes nothing.
-use Rattle.std.specs.Prelude.{ℕ, ◌+◌, ◌*◌, ◌/◌, ◌%◌, Bool, cond, ◌&&◌, List, [], ◌∷◌, Some, None, Option, ◌==◌}
-use Rattle.std.specs.List.{slice_get}
+use Rattle.std.specs.Prelude.{ℕ, ◌+◌, ◌*◌, ◌/◌, ◌%◌, Bool, ◌&&◌, List, [], ◌∷◌, Option, ◌==◌}
+use Rattle.std.specs.List.{slice_get, position}
 use Rattle.std.specs.Option.{option_map}
 use Rattle.refusal.specs.Questions.{from_to}
 use Rattle.profile.specs.declared.entry.Entry.{Entry}
@@ -10,13 +10,9 @@ use Rattle.profile.specs.Questions.{width}
 abbrev pub has : Entry → ℕ → ℕ → Bool
 has e uui n = from_to e.first e.last uui && e.length == n
 
--- the place of the entry that has them, counted from a place on
-abbrev pub find_from : ℕ → List Entry → ℕ → ℕ → Option ℕ
-find_from place [] uui n = None
-find_from place (e ∷ es) uui n = cond (has e uui n) (Some place) (find_from (place + 1) es uui n)
-
+-- the place of the first entry that has them
 abbrev pub find : List Entry → ℕ → ℕ → Option ℕ
-find es uui n = find_from 0 es uui n
+find es uui n = position (λ e. has e uui n) es
 
 -- the label of a time: first, plus the number of whole intervals in it, modulo the width
 abbrev pub label : Entry → ℕ → ℕ

@@ -1,14 +1,13 @@
 -- What loading answers. Assumes nothing.
-use Rattle.std.specs.Prelude.{◌≡◌, List, Some, None, Ok, Err, vec_items, Result}
+use Rattle.std.specs.Prelude.{◌≡◌, List, Some, None, Ok, Err, Result}
 use Rattle.profile.specs.declared.entry.Entry.{Entry}
-use Rattle.profile.specs.declared.profile.Profile.{Profile}
 use Rattle.profile.specs.declared.load.LoadError.{LoadError}
 use Rattle.profile.specs.declared.load.LoadError.TheVariants.{Refused, Memory}
 use Rattle.profile.specs.Questions.{refusal}
 
 -- Exactly the refusal of the offered entries; or, where none is refused, a profile of just these entries. Memory may then be
 -- wanting: when, is not said.
-abbrev pub Loads : List Entry → Result Profile LoadError → Type 0
-Loads offered (Ok p) = (refusal offered ≡ None) × (vec_items p.entries ≡ offered)
+abbrev pub Loads : List Entry → Result (List Entry) LoadError → Type 0
+Loads offered (Ok p) = (refusal offered ≡ None) × (p ≡ offered)
 Loads offered (Err (Refused f)) = refusal offered ≡ Some f
 Loads offered (Err Memory) = refusal offered ≡ None

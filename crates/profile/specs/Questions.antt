@@ -1,5 +1,6 @@
 -- What an offered list of entries is asked, and the refusal. Assumes nothing.
 use Rattle.std.specs.Prelude.{ℕ, ◌+◌, ◌-◌, ◌%◌, Bool, true, not, ◌&&◌, List, [], ◌∷◌, ◌++◌, length, Some, None, Option, ◌==◌, nat_le}
+use Rattle.std.specs.List.{list_all}
 use Rattle.std.specs.Option.{option_or}
 use Rattle.refusal.specs.Questions.{asked, first_no, from_to, one_of}
 use Rattle.refusal.specs.declared.Refusal.{Refusal}
@@ -33,8 +34,7 @@ alike a e = a.first == e.first && a.last == e.last && a.length == e.length
 
 -- no entry before has both
 abbrev pub differs : List Entry → Entry → Bool
-differs [] e = true
-differs (a ∷ rest) e = not (alike a e) && differs rest e
+differs before e = list_all (λ a. not (alike a e)) before
 
 -- what an entry at a place is asked, beside the entries before it
 abbrev pub questions : List Entry → ℕ → Entry → List (Bool × Refusal)

@@ -1,6 +1,6 @@
 // An entry of a profile: the UUIs `first` to `last` carry packets of `length` octets, each of `packet_time` milliseconds of
 // audio, and count intervals of `interval` milliseconds. The types hold malformed values too: loading refuses those.
-#[derive(Clone, Copy)]
+#[derive(Clone, Copy, Debug, PartialEq, Eq)]
 pub struct Entry {
     // how rate control names the entry, if it does; it is never checked
     pub index: Option<u8>,

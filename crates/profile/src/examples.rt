@@ -1,284 +1,149 @@
 // Example profiles: three that load, and one whose entries differ in width.
 ghost use Rattle.std.specs.Prelude.{◌≡◌, Err, MatchResult};
+ghost use Rattle.std.specs.Result.{result_ok};
 ghost use Rattle.refusal.specs.declared.Refusal.TheVariants.{Profile as OfProfile};
 ghost use Rattle.refusal.specs.declared.ProfileFault.TheVariants.{Unlike};
 ghost use Rattle.profile.specs.declared.load.LoadError.TheVariants.{Refused, Memory};
-ghost use Rattle.profile.specs.Examples.{example_a, example_b, example_c, ExamplesHold};
+ghost use Rattle.profile.specs.Examples.{entries_of, example_named, ExamplesHold};
 
 use crate::entry::Entry;
 use crate::load::LoadError;
 use crate::profile::Profile;
 use std::alloc::Global;
+use std::error::Error;
+use std::fmt;
+use std::str::FromStr;
 
-// The encoding formats that the examples use, numbered from 1.
-// G.711 at 64 kbit/s
-pub const PCM_64: u8 = 1;
-// G.711 at 56 kbit/s
-pub const PCM_56: u8 = 2;
-// G.726 at 32 kbit/s
-pub const ADPCM_32: u8 = 3;
-// G.727 with 5 and 2 bits
-pub const EADPCM_5_2: u8 = 4;
-// G.727 with 4 and 2 bits
-pub const EADPCM_4_2: u8 = 5;
-// G.727 with 3 and 2 bits
-pub const EADPCM_3_2: u8 = 6;
-// G.727 with 2 and 2 bits
-pub const EADPCM_2_2: u8 = 7;
-// G.729 at 8 kbit/s
-pub const CS_ACELP_8: u8 = 8;
-// generic silence insertion descriptor
-pub const SID: u8 = 9;
+// The encoding formats that the examples use, by the numbers that entries have.
+#[derive(Clone, Copy, Debug, PartialEq, Eq)]
+pub enum Format {
+    // G.711 at 64 kbit/s
+    Pcm64 = 1,
+    // G.711 at 56 kbit/s
+    Pcm56 = 2,
+    // G.726 at 32 kbit/s
+    Adpcm32 = 3,
+    // G.727 with 5 and 2 bits
+    Eadpcm5And2 = 4,
+    // G.727 with 4 and 2 bits
+    Eadpcm4And2 = 5,
+    // G.727 with 3 and 2 bits
+    Eadpcm3And2 = 6,
+    // G.727 with 2 and 2 bits
+    Eadpcm2And2 = 7,
+    // G.729 at 8 kbit/s
+    CsAcelp8 = 8,
+    // generic silence insertion descriptor
+    Sid = 9,
+}
 
-// Example A: sixteen labels, told apart by length alone.
+// An entry by its index, format, UUIs, length and packet time. Its interval is 5 ms.
+macro_rules! entry {
+    ($index:expr, $format:ident, $first:literal..=$last:literal, $length:literal, $packet_time:literal) => {
+        Entry {
+            index: $index,
+            format: Format::$format as u8,
+            first: $first,
+            last: $last,
+            length: $length,
+            packet_time: $packet_time,
+            interval: 5,
+        }
+    };
+}
+
+// Sixteen labels, told apart by length alone.
 pub const EXAMPLE_A: [Entry; 6] = [
-    Entry {
-        index: Some(0),
-        format: PCM_64,
-        first: 0,
-        last: 15,
-        length: 40,
-        packet_time: 5,
-        interval: 5,
-    },
-    Entry {
-        index: Some(1),
-        format: EADPCM_5_2,
-        first: 0,
-        last: 15,
-        length: 25,
-        packet_time: 5,
-        interval: 5,
-    },
-    Entry {
-        index: Some(2),
-        format: EADPCM_4_2,
-        first: 0,
-        last: 15,
-        length: 20,
-        packet_time: 5,
-        interval: 5,
-    },
-    Entry {
-        index: Some(3),
-        format: EADPCM_3_2,
-        first: 0,
-        last: 15,
-        length: 15,
-        packet_time: 5,
-        interval: 5,
-    },
-    Entry {
-        index: Some(4),
-        format: EADPCM_2_2,
-        first: 0,
-        last: 15,
-        length: 10,
-        packet_time: 5,
-        interval: 5,
-    },
-    Entry {
-        index: None,
-        format: SID,
-        first: 0,
-        last: 15,
-        length: 1,
-        packet_time: 5,
-        interval: 5,
-    },
+    entry!(Some(0), Pcm64, 0..=15, 40, 5),
+    entry!(Some(1), Eadpcm5And2, 0..=15, 25, 5),
+    entry!(Some(2), Eadpcm4And2, 0..=15, 20, 5),
+    entry!(Some(3), Eadpcm3And2, 0..=15, 15, 5),
+    entry!(Some(4), Eadpcm2And2, 0..=15, 10, 5),
+    entry!(None, Sid, 0..=15, 1, 5),
 ];
 
-// Example B: eight labels each for A-law and µ-law.
+// Eight labels each for A-law and µ-law.
 pub const EXAMPLE_B: [Entry; 6] = [
-    Entry {
-        index: Some(0),
-        format: PCM_64,
-        first: 0,
-        last: 7,
-        length: 40,
-        packet_time: 5,
-        interval: 5,
-    },
-    Entry {
-        index: Some(1),
-        format: PCM_56,
-        first: 0,
-        last: 7,
-        length: 35,
-        packet_time: 5,
-        interval: 5,
-    },
-    Entry {
-        index: None,
-        format: SID,
-        first: 0,
-        last: 7,
-        length: 1,
-        packet_time: 5,
-        interval: 5,
-    },
-    Entry {
-        index: Some(3),
-        format: PCM_64,
-        first: 8,
-        last: 15,
-        length: 40,
-        packet_time: 5,
-        interval: 5,
-    },
-    Entry {
-        index: Some(4),
-        format: PCM_56,
-        first: 8,
-        last: 15,
-        length: 35,
-        packet_time: 5,
-        interval: 5,
-    },
-    Entry {
-        index: None,
-        format: SID,
-        first: 8,
-        last: 15,
-        length: 1,
-        packet_time: 5,
-        interval: 5,
-    },
+    entry!(Some(0), Pcm64, 0..=7, 40, 5),
+    entry!(Some(1), Pcm56, 0..=7, 35, 5),
+    entry!(None, Sid, 0..=7, 1, 5),
+    entry!(Some(3), Pcm64, 8..=15, 40, 5),
+    entry!(Some(4), Pcm56, 8..=15, 35, 5),
+    entry!(None, Sid, 8..=15, 1, 5),
 ];
 
-// Example C: four labels each, and packets of several times.
+// Four labels each, and packets of several times.
 pub const EXAMPLE_C: [Entry; 8] = [
-    Entry {
-        index: Some(0),
-        format: PCM_64,
-        first: 0,
-        last: 3,
-        length: 40,
-        packet_time: 5,
-        interval: 5,
-    },
-    Entry {
-        index: Some(1),
-        format: PCM_56,
-        first: 0,
-        last: 3,
-        length: 35,
-        packet_time: 5,
-        interval: 5,
-    },
-    Entry {
-        index: Some(2),
-        format: ADPCM_32,
-        first: 4,
-        last: 7,
-        length: 40,
-        packet_time: 10,
-        interval: 5,
-    },
-    Entry {
-        index: Some(3),
-        format: ADPCM_32,
-        first: 4,
-        last: 7,
-        length: 20,
-        packet_time: 5,
-        interval: 5,
-    },
-    Entry {
-        index: Some(4),
-        format: CS_ACELP_8,
-        first: 8,
-        last: 11,
-        length: 40,
-        packet_time: 40,
-        interval: 5,
-    },
-    Entry {
-        index: Some(5),
-        format: CS_ACELP_8,
-        first: 8,
-        last: 11,
-        length: 30,
-        packet_time: 30,
-        interval: 5,
-    },
-    Entry {
-        index: Some(6),
-        format: CS_ACELP_8,
-        first: 8,
-        last: 11,
-        length: 20,
-        packet_time: 20,
-        interval: 5,
-    },
-    Entry {
-        index: Some(7),
-        format: CS_ACELP_8,
-        first: 8,
-        last: 11,
-        length: 10,
-        packet_time: 10,
-        interval: 5,
-    },
+    entry!(Some(0), Pcm64, 0..=3, 40, 5),
+    entry!(Some(1), Pcm56, 0..=3, 35, 5),
+    entry!(Some(2), Adpcm32, 4..=7, 40, 10),
+    entry!(Some(3), Adpcm32, 4..=7, 20, 5),
+    entry!(Some(4), CsAcelp8, 8..=11, 40, 40),
+    entry!(Some(5), CsAcelp8, 8..=11, 30, 30),
+    entry!(Some(6), CsAcelp8, 8..=11, 20, 20),
+    entry!(Some(7), CsAcelp8, 8..=11, 10, 10),
 ];
 
 // PCM and ADPCM with eight labels each, and silence with sixteen: no profile, since the widths differ.
 pub const MIXED_WIDTHS: [Entry; 4] = [
-    Entry {
-        index: Some(0),
-        format: PCM_64,
-        first: 0,
-        last: 7,
-        length: 40,
-        packet_time: 5,
-        interval: 5,
-    },
-    Entry {
-        index: Some(1),
-        format: ADPCM_32,
-        first: 8,
-        last: 15,
-        length: 40,
-        packet_time: 10,
-        interval: 5,
-    },
-    Entry {
-        index: Some(2),
-        format: ADPCM_32,
-        first: 8,
-        last: 15,
-        length: 20,
-        packet_time: 5,
-        interval: 5,
-    },
-    Entry {
-        index: None,
-        format: SID,
-        first: 0,
-        last: 15,
-        length: 1,
-        packet_time: 5,
-        interval: 5,
-    },
+    entry!(Some(0), Pcm64, 0..=7, 40, 5),
+    entry!(Some(1), Adpcm32, 8..=15, 40, 10),
+    entry!(Some(2), Adpcm32, 8..=15, 20, 5),
+    entry!(None, Sid, 0..=15, 1, 5),
 ];
 
-pub fn example_a(heap: Global) -> Result<Profile, LoadError>
-    ensures loads { MatchResult result (λ p. p.entries.items ≡ example_a) (λ e. e ≡ Memory) }
-    ensures examples { ExamplesHold }
-{
-    Profile::load(heap, &EXAMPLE_A)
+// The examples that load.
+#[derive(Clone, Copy, Debug, PartialEq, Eq)]
+pub enum Example {
+    A,
+    B,
+    C,
 }
 
-pub fn example_b(heap: Global) -> Result<Profile, LoadError>
-    ensures { MatchResult result (λ p. p.entries.items ≡ example_b) (λ e. e ≡ Memory) }
-{
-    Profile::load(heap, &EXAMPLE_B)
+impl Example {
+    pub fn entries(self) -> &'static [Entry]
+        ensures { result.now ≡ entries_of self }
+    {
+        match self {
+            Example::A => &EXAMPLE_A,
+            Example::B => &EXAMPLE_B,
+            Example::C => &EXAMPLE_C,
+        }
+    }
+
+    pub fn load(self, heap: Global) -> Result<Profile, LoadError>
+        ensures loads { MatchResult result (λ p. p ≡ entries_of self) (λ e. e ≡ Memory) }
+        ensures examples { ExamplesHold }
+    {
+        Profile::load(heap, self.entries())
+    }
 }
 
-pub fn example_c(heap: Global) -> Result<Profile, LoadError>
-    ensures { MatchResult result (λ p. p.entries.items ≡ example_c) (λ e. e ≡ Memory) }
-{
-    Profile::load(heap, &EXAMPLE_C)
+// No example has this name.
+#[derive(Clone, Copy, Debug, PartialEq, Eq)]
+pub struct UnknownExample;
+
+impl fmt::Display for UnknownExample {
+    fn fmt<W: fmt::Write>(&self, f: &mut fmt::Formatter<W>) -> fmt::Result {
+        write!(f, "the examples are A, B and C")
+    }
+}
+
+impl Error for UnknownExample {}
+
+impl FromStr for Example {
+    type Err = UnknownExample;
+
+    ghost from_str_gives = { λ name r. result_ok r ≡ example_named name };
+
+    fn from_str(name: &str) -> Result<Example, UnknownExample> {
+        match name {
+            "A" => Ok(Example::A),
+            "B" => Ok(Example::B),
+            "C" => Ok(Example::C),
+            _ => Err(UnknownExample),
+        }
+    }
 }
 
 pub fn mixed_widths(heap: Global) -> Result<Profile, LoadError>

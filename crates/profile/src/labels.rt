@@ -1,7 +1,8 @@
 // What a profile is used for: finding the entry of a packet, and labelling packets.
-ghost use Rattle.std.specs.Prelude.{◌≡◌};
+ghost use Rattle.std.specs.Prelude.{◌≡◌, ◌<◌, ◌≤◌, false, is_some, IfSome};
 ghost use Rattle.std.specs.List.{slice_get};
-ghost use Rattle.profile.specs.Labels.{has, find_from, find, label_at, interval_of, span_of};
+ghost use Rattle.profile.specs.Questions.{refusal};
+ghost use Rattle.profile.specs.Labels.{has, find, label_at, interval_of, span_of};
 ghost use Rattle.profile.specs.Guarantees.{Guarantees, Found, Labelled};
 
 use crate::entry::Entry;
@@ -11,74 +12,53 @@ use crate::questions::width_of;
 impl Profile {
     // The entry at a place, from 0.
     pub fn entry(&self, place: usize) -> Option<Entry>
-        ensures { result ≡ slice_get self.now.entries.items place }
+        ensures value { result ≡ slice_get self.now place }
+        ensures good { IfSome result (λ e. (e.first ≤ e.last) × (e.last ≤ 15) × (1 ≤ e.interval)) }
+        ensures sound { is_some (refusal self.now) ≡ false }
     {
-        if place < self.entries.len() {
-            Some(self.entries[place])
-        } else {
-            None
-        }
+        self.entries.get(place).copied()
     }
 
     // The place of the entry that has packets with this UUI and length.
     pub fn find(&self, uui: u16, length: usize) -> Option<usize>
-        ensures value { result ≡ find self.now.entries.items uui length }
-        ensures found { Found self.now.entries.items uui length result }
+        ensures value { result ≡ find self.now uui length }
+        ensures found { Found self.now uui length result }
     {
-        place_of(self.entries.as_slice(), uui, length)
+        self.entries
+            .iter()
+            .position(|entry| has(*entry, uui, length))
     }
 
     // The label of a time under the entry at a place: its UUI.
+    #[tactic(auto, using(crate::proofs::Labelling::labelled_by))]
     pub fn label(&self, place: usize, time: u64) -> Option<u16>
-        ensures value { result ≡ label_at self.now.entries.items place time }
-        ensures labelled { Labelled self.now.entries.items place time result }
+        ensures value { result ≡ label_at self.now place time }
+        ensures labelled { Labelled self.now place time result }
     {
-        self.label_under(place, time)
-    }
-
-    fn label_under(&self, place: usize, time: u64) -> Option<u16>
-        ensures { result ≡ label_at self.now.entries.items place time }
-    {
-        match self.entry(place) {
-            None => None,
-            Some(entry) => Some(
-                entry.first
-                    + (time / u64::from(entry.interval) % u64::from(width_of(entry))) as u16,
-            ),
-        }
+        let entry = self.entry(place)?;
+        let intervals = time / u64::from(entry.interval) % u64::from(width_of(entry));
+        Some(entry.first + intervals as u16)
     }
 
     // The interval of every entry, in milliseconds.
     pub fn interval(&self) -> u16
-        ensures { result ≡ interval_of self.now.entries.items }
+        ensures value { result ≡ interval_of self.now }
+        ensures positive { 0 < result }
     {
-        match self.entry(0) {
-            None => 0,
-            Some(entry) => entry.interval,
-        }
+        self.entries[0].interval
     }
 
     // The time after which labels repeat, in milliseconds.
+    #[tactic(auto, using(crate::proofs::Finding::guarantees))]
     pub fn span(&self) -> u32
-        ensures value { result ≡ span_of self.now.entries.items }
-        ensures guarantees { Guarantees self.now.entries.items }
+        ensures value { result ≡ span_of self.now }
+        ensures positive { 0 < result }
+        ensures guarantees { Guarantees self.now }
+        ensures sound { is_some (refusal self.now) ≡ false }
     {
-        match self.entry(0) {
-            None => 0,
-            Some(entry) => u32::from(width_of(entry)) * u32::from(entry.interval),
-        }
+        let first = self.entries[0];
+        width_of(first) * u32::from(first.interval)
     }
-}
-
-fn place_of(entries: &[Entry], uui: u16, length: usize) -> Option<usize>
-    ensures { result ≡ find_from 0 entries.now uui length }
-{
-    for (place, entry) in entries.iter().enumerate() {
-        if has(*entry, uui, length) {
-            return Some(place);
-        }
-    }
-    None
 }
 
 // Whether the entry has packets with this UUI and length.

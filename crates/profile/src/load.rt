@@ -1,19 +1,50 @@
 // Loading a profile.
 ghost use Rattle.std.specs.Prelude.{◌≡◌};
+ghost use Rattle.refusal.specs.Questions.{allowed};
+ghost use Rattle.profile.specs.declared.load.LoadError.TheVariants.{Refused, Memory};
 ghost use Rattle.profile.specs.Loading.{Loads};
 ghost use Rattle.profile.specs.Questions.{refusal};
 
 use crate::entry::Entry;
 use crate::profile::Profile;
-use crate::questions::entry_refusal;
+use crate::questions::check_entry;
 use refusal::{ProfileFault, Refusal};
-use std::alloc::Global;
+use std::alloc::{AllocError, Global};
+use std::error::Error;
+use std::fmt;
 
 // Why there is no profile: the entries are refused, or there is no memory to store them.
-#[derive(Clone, Copy)]
+#[derive(Clone, Copy, Debug, PartialEq, Eq)]
 pub enum LoadError {
     Refused(Refusal),
     Memory,
+}
+
+impl fmt::Display for LoadError {
+    fn fmt<W: fmt::Write>(&self, f: &mut fmt::Formatter<W>) -> fmt::Result {
+        match self {
+            LoadError::Refused(refusal) => write!(f, "{refusal}"),
+            LoadError::Memory => write!(f, "no memory for the profile"),
+        }
+    }
+}
+
+impl Error for LoadError {}
+
+impl From<Refusal> for LoadError {
+    ghost from_gives = { λ refusal error. error ≡ Refused refusal };
+
+    fn from(refusal: Refusal) -> LoadError {
+        LoadError::Refused(refusal)
+    }
+}
+
+impl From<AllocError> for LoadError {
+    ghost from_gives = { λ _ error. error ≡ Memory };
+
+    fn from(_: AllocError) -> LoadError {
+        LoadError::Memory
+    }
 }
 
 const MAX_ENTRIES: usize = 32;
@@ -23,27 +54,21 @@ impl Profile {
     pub fn load(heap: Global, offered: &[Entry]) -> Result<Profile, LoadError>
         ensures { Loads offered.now result }
     {
-        if let Some(refusal) = refusal_of(offered) {
-            return Err(LoadError::Refused(refusal));
-        }
-        match Vec::from_slice(heap, offered) {
-            Ok(entries) => Ok(Profile { entries }),
-            Err(_) => Err(LoadError::Memory),
-        }
+        check_entries(offered)?;
+        let entries = Vec::from_slice(heap, offered)?;
+        Ok(Profile { entries })
     }
 }
 
-// The refusal of the offered entries, entry after entry.
-fn refusal_of(offered: &[Entry]) -> Option<Refusal>
-    ensures { result ≡ refusal offered.now }
+// Whether the offered entries pass, entry after entry.
+fn check_entries(offered: &[Entry]) -> Result<(), Refusal>
+    ensures { result ≡ allowed (refusal offered.now) }
 {
     if offered.is_empty() || offered.len() > MAX_ENTRIES {
-        return Some(Refusal::Profile(ProfileFault::EntryCount, 0));
+        return Err(Refusal::Profile(ProfileFault::EntryCount, 0));
     }
     for (place, entry) in offered.iter().enumerate() {
-        if let Some(refusal) = entry_refusal(&offered[0..place], place, *entry) {
-            return Some(refusal);
-        }
+        check_entry(&offered[..place], place, *entry)?;
     }
-    None
+    Ok(())
 }

@@ -1,34 +1,34 @@
 // What one offered entry is asked.
-ghost use Rattle.std.specs.Prelude.{◌≡◌, ◌≤◌};
-ghost use Rattle.refusal.specs.Questions.{first_no};
+ghost use Rattle.std.specs.Prelude.{◌≡◌};
+ghost use Rattle.refusal.specs.Questions.{allowed, first_no};
 ghost use Rattle.profile.specs.Questions.{width, in_range, good_length, aligned, good_times, like_first, alike, differs, questions};
 
 use crate::entry::Entry;
 use refusal::{ProfileFault, Refusal};
 
-// The refusal of an entry at a place, beside the entries before it.
-pub(crate) fn entry_refusal(before: &[Entry], place: usize, entry: Entry) -> Option<Refusal>
-    ensures { result ≡ first_no (questions before.now place entry) }
+// Whether an entry at a place passes, beside the entries before it.
+pub(crate) fn check_entry(before: &[Entry], place: usize, entry: Entry) -> Result<(), Refusal>
+    ensures { result ≡ allowed (first_no (questions before.now place entry)) }
 {
     if !in_range(entry) {
-        return Some(Refusal::Profile(ProfileFault::UuiRange, place));
+        return Err(Refusal::Profile(ProfileFault::UuiRange, place));
     }
     if !good_length(entry) {
-        return Some(Refusal::Profile(ProfileFault::EntryLength, place));
+        return Err(Refusal::Profile(ProfileFault::EntryLength, place));
     }
     if !aligned(entry) {
-        return Some(Refusal::Profile(ProfileFault::Width, place));
+        return Err(Refusal::Profile(ProfileFault::Width, place));
     }
     if !good_times(entry) {
-        return Some(Refusal::Profile(ProfileFault::Times, place));
+        return Err(Refusal::Profile(ProfileFault::Times, place));
     }
     if !like_first(before, entry) {
-        return Some(Refusal::Profile(ProfileFault::Unlike, place));
+        return Err(Refusal::Profile(ProfileFault::Unlike, place));
     }
     if !differs(before, entry) {
-        return Some(Refusal::Profile(ProfileFault::Duplicate, place));
+        return Err(Refusal::Profile(ProfileFault::Duplicate, place));
     }
-    None
+    Ok(())
 }
 
 fn in_range(entry: Entry) -> bool
@@ -44,19 +44,17 @@ fn good_length(entry: Entry) -> bool
 }
 
 // How many UUIs the entry has, where its range is in order.
-pub(crate) fn width_of(entry: Entry) -> u16
-    requires { (entry.first ≤ entry.last) × (entry.last ≤ 15) }
+pub(crate) fn width_of(entry: Entry) -> u32
     ensures { result ≡ width entry }
 {
-    entry.last - entry.first + 1
+    u32::from(entry.last.saturating_sub(entry.first)) + 1
 }
 
 fn aligned(entry: Entry) -> bool
-    requires { (entry.first ≤ entry.last) × (entry.last ≤ 15) }
     ensures { result ≡ aligned entry }
 {
     let width = width_of(entry);
-    matches!(width, 1 | 2 | 4 | 8 | 16) && entry.first % width == 0
+    matches!(width, 1 | 2 | 4 | 8 | 16) && u32::from(entry.first) % width == 0
 }
 
 fn good_times(entry: Entry) -> bool
@@ -75,10 +73,7 @@ fn like_first(before: &[Entry], entry: Entry) -> bool
 {
     match before {
         [] => true,
-        [first, ..] => {
-            entry.last.saturating_sub(entry.first) == first.last.saturating_sub(first.first)
-                && entry.interval == first.interval
-        }
+        [first, ..] => width_of(entry) == width_of(*first) && entry.interval == first.interval,
     }
 }
 
@@ -86,12 +81,7 @@ fn like_first(before: &[Entry], entry: Entry) -> bool
 fn differs(before: &[Entry], one: Entry) -> bool
     ensures { result ≡ differs before.now one }
 {
-    for earlier in before {
-        if alike(*earlier, one) {
-            return false;
-        }
-    }
-    true
+    before.iter().all(|earlier| !alike(*earlier, one))
 }
 
 fn alike(one: Entry, other: Entry) -> bool

@@ -41,8 +41,8 @@ impl AudioSender {
         place: usize,
         payload: &[u8],
     ) -> Result<u16, Refusal>
-        ensures value { result ≡ (audio profile.now.entries.items self.old time place (length payload.now)).0 }
-        ensures after { self.new ≡ (audio profile.now.entries.items self.old time place (length payload.now)).1 }
+        ensures value { result ≡ (audio profile.now self.old time place (length payload.now)).0 }
+        ensures after { self.new ≡ (audio profile.now self.old time place (length payload.now)).1 }
     {
         let time = Time::new(time).ok_or(SendingFault::TimeOutOfRange)?.get();
         let (Some(entry), Some(uui)) = (profile.entry(place), profile.label(place, time)) else {

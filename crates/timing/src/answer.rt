@@ -1,17 +1,18 @@
 // What a call is answered, in one line.
-use examples::hex::show_octets;
+use arrayvec::ArrayVec;
+use examples::hex::Hex;
+use examples::refused::Refused;
 use refusal::Refusal;
 use std::fmt;
 
-#[derive(Clone, Copy)]
+#[derive(Drop)]
 pub enum Answer {
     // all streams are new
     New,
     // the audio stream is new, under a profile
     Loaded,
     Accepted,
-    // the first of these octets, so many
-    Octets([u8; 16], usize),
+    Octets(ArrayVec<u8, 16>),
     Nothing,
     // an octet was changed that is none of a packet's
     Touched,
@@ -26,17 +27,12 @@ impl fmt::Display for Answer {
             Answer::New => write!(f, "new"),
             Answer::Loaded => write!(f, "loaded"),
             Answer::Accepted => write!(f, "accepted"),
-            Answer::Octets(octets, count) => show_octets(octets, *count, f),
+            Answer::Octets(octets) => write!(f, "{}", Hex(octets.as_slice())),
             Answer::Nothing => write!(f, "nothing"),
             Answer::Touched => write!(f, "touched"),
             Answer::Uui(uui) => write!(f, "uui {uui}"),
-            Answer::Refused(refusal) => show_refusal(*refusal, f),
+            Answer::Refused(refusal) => write!(f, "{}", Refused(*refusal)),
             Answer::BadLine => write!(f, "bad line"),
         }
     }
-}
-
-fn show_refusal<W: fmt::Write>(refusal: Refusal, f: &mut fmt::Formatter<W>) -> fmt::Result {
-    let number = refusal.number();
-    write!(f, "refused {number}")
 }

@@ -4,7 +4,7 @@ ghost use Rattle.sending.specs.Audio.{audio};
 ghost use Rattle.timing.specs.Answers.{to_audio};
 
 use crate::answer::Answer;
-use profile::examples::{example_a, example_b, example_c};
+use profile::examples::Example;
 use profile::load::LoadError;
 use profile::profile::Profile;
 use sending::audio::AudioSender;
@@ -17,29 +17,21 @@ pub struct Audio {
 }
 
 impl Audio {
-    // A new stream under the example of this name.
-    pub fn under(heap: Global, name: &str) -> Option<Result<Audio, LoadError>> {
-        match name {
-            "A" => Some(Audio::new(example_a(heap))),
-            "B" => Some(Audio::new(example_b(heap))),
-            "C" => Some(Audio::new(example_c(heap))),
-            _ => None,
-        }
-    }
-
-    fn new(loaded: Result<Profile, LoadError>) -> Result<Audio, LoadError> {
-        let profile = loaded?;
-        let sender = AudioSender::new();
-        Ok(Audio { profile, sender })
+    // A new stream under an example.
+    pub fn under(heap: Global, example: Example) -> Result<Audio, LoadError> {
+        Ok(Audio {
+            profile: example.load(heap)?,
+            sender: AudioSender::new(),
+        })
     }
 
     // So many octets of audio from a time on, under the entry at a place.
     pub fn answer(&mut self, time: u64, place: usize, length: u8) -> Answer
-        ensures value { result ≡ to_audio (audio self.old.profile.entries.items self.old.sender.free time place length).0 }
-        ensures after { self.new.sender.free ≡ (audio self.old.profile.entries.items self.old.sender.free time place length).1 }
+        ensures value { result ≡ to_audio (audio self.old.profile self.old.sender time place length).0 }
+        ensures after { self.new.sender ≡ (audio self.old.profile self.old.sender time place length).1 }
     {
         let octets = [0; 255];
-        let payload = &octets[0..usize::from(length)];
+        let payload = &octets[..usize::from(length)];
         match self.sender.audio(&self.profile, time, place, payload) {
             Ok(uui) => Answer::Uui(uui),
             Err(refusal) => Answer::Refused(refusal),

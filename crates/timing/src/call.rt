@@ -1,15 +1,13 @@
 // One call: a line of words, with one blank between two. The first says what is asked.
-ghost use Rattle.std.specs.Prelude.{◌≤◌, IfSome};
-
 use crate::answer::Answer;
 use crate::audio::Audio;
 use crate::messages::{answer_due, answer_event};
+use crate::room::Room;
 use crate::streams::Streams;
-use anyhow::anyhow;
 use examples::bits::bits_of;
-use kinds::cas::Cas;
-use kinds::digit::{DTMF, Digit, TONE_OFF};
-use kinds::digits::Digits;
+use kinds::digit::{Digit, TONE_OFF};
+use kinds::system::System;
+use profile::examples::Example;
 use profile::load::LoadError;
 use refusal::Refusal;
 use std::alloc::Global;
@@ -25,7 +23,10 @@ pub fn answer_to(heap: Global, streams: &mut Streams, line: &str) -> anyhow::Res
             *streams = Streams::new();
             Ok(Answer::New)
         }
-        ["profile", name] => load(heap, streams, name),
+        ["profile", name] => match name.parse::<Example>() {
+            Ok(example) => load(heap, streams, example),
+            Err(_) => Ok(Answer::BadLine),
+        },
         ["audio", time, place, length] => {
             Ok(audio(streams, time, place, length).unwrap_or(Answer::BadLine))
         }
@@ -33,15 +34,14 @@ pub fn answer_to(heap: Global, streams: &mut Streams, line: &str) -> anyhow::Res
     }
 }
 
-fn load(heap: Global, streams: &mut Streams, name: &str) -> anyhow::Result<Answer> {
-    match Audio::under(heap, name) {
-        None => Ok(Answer::BadLine),
-        Some(Ok(audio)) => {
+fn load(heap: Global, streams: &mut Streams, example: Example) -> anyhow::Result<Answer> {
+    match Audio::under(heap, example) {
+        Ok(audio) => {
             streams.audio = Some(audio);
             Ok(Answer::Loaded)
         }
-        Some(Err(LoadError::Refused(refusal))) => Ok(Answer::Refused(refusal)),
-        Some(Err(LoadError::Memory)) => Err(anyhow!("no memory for the profile")),
+        Err(LoadError::Refused(refusal)) => Ok(Answer::Refused(refusal)),
+        Err(LoadError::Memory) => Err(LoadError::Memory.into()),
     }
 }
 
@@ -49,10 +49,8 @@ fn audio(streams: &mut Streams, time: &str, place: &str, length: &str) -> Option
     let time = time.parse::<u64>().ok()?;
     let place = place.parse::<usize>().ok()?;
     let length = length.parse::<u8>().ok()?;
-    match &mut streams.audio {
-        Some(audio) => Some(audio.answer(time, place, length)),
-        None => None,
-    }
+    let audio = streams.audio.as_mut()?;
+    Some(audio.answer(time, place, length))
 }
 
 // A call on one of the message streams.
@@ -62,19 +60,23 @@ fn message(streams: &mut Streams, words: &[&str]) -> Option<Answer> {
             let key = key.parse::<char>().ok()?;
             digit(streams, time, Digit::of_key(key, LEVEL))
         }
-        ["off", time] => digit(streams, time, Digit::new(DTMF, TONE_OFF, LEVEL)),
+        ["off", time] => digit(
+            streams,
+            time,
+            Digit::new(System::Dtmf.into(), TONE_OFF, LEVEL),
+        ),
         ["cas", time, digits] => {
             let bits = bits_of(digits.as_bytes())?;
             let time = time.parse::<u64>().ok()?;
-            Some(answer_event::<Cas>(&mut streams.cas, time, bits))
+            Some(answer_event(&mut streams.cas, time, bits))
         }
         ["duekey", time, room] => {
             let time = time.parse::<u64>().ok()?;
-            Some(answer_due::<Digits>(&mut streams.digits, time, room_of(room)?))
+            Some(answer_due(&mut streams.digits, time, room_of(room)?))
         }
         ["duecas", time, room] => {
             let time = time.parse::<u64>().ok()?;
-            Some(answer_due::<Cas>(&mut streams.cas, time, room_of(room)?))
+            Some(answer_due(&mut streams.cas, time, room_of(room)?))
         }
         _ => None,
     }
@@ -84,15 +86,11 @@ fn message(streams: &mut Streams, words: &[&str]) -> Option<Answer> {
 fn digit(streams: &mut Streams, time: &str, made: Result<Digit, Refusal>) -> Option<Answer> {
     let time = time.parse::<u64>().ok()?;
     match made {
-        Ok(digit) => Some(answer_event::<Digits>(&mut streams.digits, time, digit)),
+        Ok(digit) => Some(answer_event(&mut streams.digits, time, digit)),
         Err(refusal) => Some(Answer::Refused(refusal)),
     }
 }
 
-// The length of a buffer.
-fn room_of(word: &str) -> Option<usize>
-    ensures { IfSome result (λ room. room ≤ 16) }
-{
-    let room = word.parse::<usize>().ok()?;
-    if room <= 16 { Some(room) } else { None }
+fn room_of(word: &str) -> Option<Room> {
+    Room::new(word.parse::<usize>().ok()?)
 }

@@ -10,6 +10,7 @@ mod answer;
 mod audio;
 mod call;
 mod messages;
+mod room;
 mod streams;
 
 fn main(rt: HostRuntime) -> anyhow::Result<()> {

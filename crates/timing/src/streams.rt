@@ -1,6 +1,5 @@
 // The sending streams of one trunk.
 ghost use Rattle.std.specs.Prelude.{◌≡◌};
-ghost use Rattle.sending.specs.Seen.{seen};
 ghost use Rattle.sending.specs.Sending.{new_sender};
 
 use crate::audio::Audio;
@@ -18,8 +17,8 @@ pub struct Streams {
 
 impl Streams {
     pub fn new() -> Streams
-        ensures digits { seen result.digits ≡ new_sender }
-        ensures cas { seen result.cas ≡ new_sender }
+        ensures digits { result.digits ≡ new_sender }
+        ensures cas { result.cas ≡ new_sender }
     {
         Streams {
             digits: Sender::<Digits>::new(),

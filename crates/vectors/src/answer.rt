@@ -1,5 +1,7 @@
 // What a case is answered, in one line.
-use examples::hex::show_octets;
+use arrayvec::ArrayVec;
+use examples::hex::Hex;
+use examples::refused::Refused;
 use examples::wide::Mark;
 use kinds::cas::CasBits;
 use kinds::digit::Digit;
@@ -9,8 +11,7 @@ use type3::payload::Payload;
 
 #[derive(Drop)]
 pub enum Answer {
-    // the first of these octets, so many
-    Octets([u8; 12], usize),
+    Octets(ArrayVec<u8, 12>),
     Digit(Payload<Digit>),
     Cas(Payload<CasBits>),
     Wide(Payload<Mark>),
@@ -23,44 +24,36 @@ pub enum Answer {
 impl fmt::Display for Answer {
     fn fmt<W: fmt::Write>(&self, f: &mut fmt::Formatter<W>) -> fmt::Result {
         match self {
-            Answer::Octets(octets, count) => show_octets(octets, *count, f),
-            Answer::Digit(payload) => show_digit(*payload, f),
-            Answer::Cas(payload) => show_cas(*payload, f),
-            Answer::Wide(payload) => show_wide(*payload, f),
+            Answer::Octets(octets) => write!(f, "{}", Hex(octets.as_slice())),
+            Answer::Digit(payload) => {
+                show_head("digit", payload, f)?;
+                let digit = payload.message;
+                let system: u8 = digit.system().into();
+                write!(f, " {} {system} {}", digit.level(), digit.code())
+            }
+            Answer::Cas(payload) => {
+                show_head("cas", payload, f)?;
+                write!(f, " {:04b}", payload.message.octet())
+            }
+            Answer::Wide(payload) => {
+                show_head("wide", payload, f)?;
+                let code: u8 = payload.message.into();
+                write!(f, " {code}")
+            }
             Answer::Told(number) => write!(f, "{number}"),
-            Answer::Refused(refusal) => show_refusal(*refusal, f),
+            Answer::Refused(refusal) => write!(f, "{}", Refused(*refusal)),
             Answer::BadLine => write!(f, "bad line"),
         }
     }
 }
 
-fn show_digit<W: fmt::Write>(payload: Payload<Digit>, f: &mut fmt::Formatter<W>) -> fmt::Result {
+// The kind of a payload, and the two numbers at its head.
+fn show_head<T: Copy, W: fmt::Write>(
+    kind: &str,
+    payload: &Payload<T>,
+    f: &mut fmt::Formatter<W>,
+) -> fmt::Result {
     let redundancy = payload.redundancy.get();
     let stamp = payload.stamp.get();
-    let level = payload.message.level();
-    let system = payload.message.system();
-    let code = payload.message.code();
-    write!(f, "digit {redundancy} {stamp} {level} {system} {code}")
-}
-
-fn show_cas<W: fmt::Write>(payload: Payload<CasBits>, f: &mut fmt::Formatter<W>) -> fmt::Result {
-    let redundancy = payload.redundancy.get();
-    let stamp = payload.stamp.get();
-    let bits = payload.message.octet();
-    write!(f, "cas {redundancy} {stamp} {bits:04b}")
-}
-
-fn show_wide<W: fmt::Write>(payload: Payload<Mark>, f: &mut fmt::Formatter<W>) -> fmt::Result {
-    let redundancy = payload.redundancy.get();
-    let stamp = payload.stamp.get();
-    let code = payload.message.code();
-    write!(f, "wide {redundancy} {stamp} {code}")
-}
-
-fn show_refusal<W: fmt::Write>(refusal: Refusal, f: &mut fmt::Formatter<W>) -> fmt::Result {
-    let number = refusal.number();
-    match refusal.cause() {
-        Some(cause) => write!(f, "refused {number} cause {cause}"),
-        None => write!(f, "refused {number}"),
-    }
+    write!(f, "{kind} {redundancy} {stamp}")
 }

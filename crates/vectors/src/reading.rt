@@ -9,10 +9,8 @@ use type3::reading::{read_either, read_payload};
 // Read as a digit or as signalling bits.
 pub fn read(octets: &[u8]) -> Answer {
     match read_either::<Digits, Cas>(octets) {
-        Ok(read) => match read {
-            Either::First(payload) => Answer::Digit(payload),
-            Either::Second(payload) => Answer::Cas(payload),
-        },
+        Ok(Either::First(payload)) => Answer::Digit(payload),
+        Ok(Either::Second(payload)) => Answer::Cas(payload),
         Err(refusal) => Answer::Refused(refusal),
     }
 }

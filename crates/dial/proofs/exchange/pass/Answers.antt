@@ -1,6 +1,5 @@
 use Rattle.std.proofs.Common.{◌≡◌, length, Ok, sym, ap, ◌∙◌, rules}
 use Rattle.std.proofs.lemmas.Result.{err_from_is_err_and}
-use Rattle.sending.specs.Answered.{seen}
 use Rattle.sending.specs.Sending.{due, due_of}
 use Rattle.kinds.specs.Digits.{digits}
 use Rattle.dial.specs.Heard.{says}
@@ -9,7 +8,7 @@ use Rattle.dial.proofs.exchange.pass.Goals as goal
 
 pub returns-in_err-due : goal.returns-in_err-due
 returns-in_err-due c =
-    let s = seen c.args.sender.now in
+    let s = c.args.sender.now in
     let t = c.args.time in
     let six : length c.args.octets.now ≡ 6 = search rules in
     let p = err_from_is_err_and c.from_residual.result c.from_residual.ensures.1 in
@@ -20,14 +19,14 @@ returns-in_err-due c =
 
 pub returns-in_err-payload-in-Some : goal.returns-in_err-payload-in-Some
 returns-in_err-payload-in-Some c =
-    let s = seen c.args.sender.now in
+    let s = c.args.sender.now in
     let six : length c.args.octets.now ≡ 6 = search rules in
     never_refused s c.args.time c.in-Some.field-0 c.args.octets.now c.due.new.out six
     (ap (λ o. Ok o) (sym c.in-Some.is) ∙ c.in_ok-due.ensures.value) c.due.ensures.octets c.in_err-payload-in-Some.field-0.0 c.in_err-payload-in-Some.ensures.value
 
 pub returns-in_ok-payload-in-Some : goal.returns-in_ok-payload-in-Some
 returns-in_ok-payload-in-Some c =
-    let s = seen c.args.sender.now in
+    let s = c.args.sender.now in
     let t = c.args.time in
     let six : length c.args.octets.now ≡ 6 = search rules in
     record {
