@@ -3,7 +3,7 @@
 #![tactic(auto)]
 
 use call::answer_to;
-use std::io::{BufRead, BufReader};
+use examples::lines::answer_lines;
 use streams::Streams;
 
 mod answer;
@@ -14,16 +14,6 @@ mod room;
 mod streams;
 
 fn main(rt: HostRuntime) -> anyhow::Result<()> {
-    run(&rt)
-}
-
-fn run(rt: &HostRuntime) -> anyhow::Result<()> {
-    let heap = rt.alloc();
     let mut streams = Streams::new();
-    for line in BufReader::new(heap, rt.stdin())?.lines(heap) {
-        let line = line?;
-        let answer = answer_to(heap, &mut streams, line.as_str())?;
-        println!(rt; "{answer}")?;
-    }
-    Ok(())
+    answer_lines(&rt, |heap, line| answer_to(heap, &mut streams, line))
 }

@@ -4,10 +4,10 @@ use crate::reading::{read, read_wide};
 use crate::writing::{cas, digit, key, wide};
 use examples::hex::octets_of;
 use kinds::export::gublaisma_read_type3;
-use std::alloc::{AllocError, Global};
+use std::alloc::Global;
 
 // A line that is no case, or has a number out of its range, is a bad one.
-pub fn answer_to(heap: Global, line: &str) -> Result<Answer, AllocError> {
+pub fn answer_to(heap: Global, line: &str) -> anyhow::Result<Answer> {
     let Some((what, rest)) = line.split_once(' ') else {
         return Ok(Answer::BadLine);
     };

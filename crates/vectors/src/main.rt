@@ -3,7 +3,7 @@
 #![tactic(auto)]
 
 use case::answer_to;
-use std::io::{BufRead, BufReader};
+use examples::lines::answer_lines;
 
 mod answer;
 mod case;
@@ -11,15 +11,5 @@ mod reading;
 mod writing;
 
 fn main(rt: HostRuntime) -> anyhow::Result<()> {
-    run(&rt)
-}
-
-fn run(rt: &HostRuntime) -> anyhow::Result<()> {
-    let heap = rt.alloc();
-    for line in BufReader::new(heap, rt.stdin())?.lines(heap) {
-        let line = line?;
-        let answer = answer_to(heap, line.as_str())?;
-        println!(rt; "{answer}")?;
-    }
-    Ok(())
+    answer_lines(&rt, |heap, line| answer_to(heap, line))
 }
