@@ -96,13 +96,13 @@ module _ {P Q : Type 0} where
 
   -- what an answer names, if it is news
   abbrev pub named : Arrived P Q → Option (Named P Q)
-  named (on.Audio (News n)) = Some (record { content = entry n.place; elapsed = n.elapsed })
+  named (on.Audio (News n)) = Some (record { content = entry n.place; elapsed = n.moved.elapsed })
   named (on.Audio Repeat) = None
   named (on.Audio Late) = None
-  named (on.First (News n)) = Some (record { content = message (First n.message); elapsed = n.elapsed })
+  named (on.First (News n)) = Some (record { content = message (First n.message); elapsed = n.moved.elapsed })
   named (on.First Repeat) = None
   named (on.First Late) = None
-  named (on.Second (News n)) = Some (record { content = message (Second n.message); elapsed = n.elapsed })
+  named (on.Second (News n)) = Some (record { content = message (Second n.message); elapsed = n.moved.elapsed })
   named (on.Second Repeat) = None
   named (on.Second Late) = None
 

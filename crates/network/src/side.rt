@@ -1,5 +1,5 @@
 // The two ends of a trunk.
-#[derive(Clone, Copy)]
+#[derive(Clone, Copy, Debug, PartialEq, Eq)]
 pub enum Side {
     Near,
     Far,

@@ -103,7 +103,7 @@ module _ {P Q : Type 0} where
 
   -- audio news names its entry
   abbrev pub audio_answer : ℕ → Result (Told Moved) Refusal → Result (Arrived P Q) Refusal
-  audio_answer i (Ok (News m)) = Ok (on.Audio (News (record { place = i; elapsed = m.elapsed; position = m.position })))
+  audio_answer i (Ok (News m)) = Ok (on.Audio (News (record { place = i; moved = m })))
   audio_answer i (Ok Repeat) = Ok (on.Audio Repeat)
   audio_answer i (Ok Late) = Ok (on.Audio Late)
   audio_answer i (Err f) = Err f
