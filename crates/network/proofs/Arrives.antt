@@ -16,7 +16,6 @@ use Rattle.profile.specs.Questions.{refusal}
 use Rattle.profile.specs.Labels.{find}
 use Rattle.sending.specs.Sending as sending
 use Rattle.sending.specs.Sending.{said_by, octets_of}
-use Rattle.sending.specs.declared.event.Packet.{Packet as Due}
 use Rattle.placing.specs.Placing.{place}
 use Rattle.trunk.specs.declared.answer.Which.{Which}
 use Rattle.trunk.specs.declared.answer.Arrived.{Arrived}

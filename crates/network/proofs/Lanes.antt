@@ -1,5 +1,5 @@
 -- The two kinds of an end, told by which: their meanings, their streams, and what a payload of theirs does. Assumes nothing.
-use Rattle.std.proofs.Common.{◌≡◌, ℕ, ◌<◌, false, cond, Some, Ok, Err, Option, Result, refl}
+use Rattle.std.proofs.Common.{◌≡◌, ℕ, false, cond, Some, Ok, Err, Option, Result, refl}
 use Rattle.refusal.specs.declared.Refusal.{Refusal}
 use Rattle.type3.specs.Kinds.{Meaning, Lawful}
 use Rattle.type3.specs.Octets.{written, read_either}

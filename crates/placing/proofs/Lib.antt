@@ -7,4 +7,3 @@ pub mod Beside
 pub mod Hearing
 pub mod Rightly
 pub mod InForce
-pub mod Examples

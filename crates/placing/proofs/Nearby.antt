@@ -1,9 +1,9 @@
 -- Numbers that agree modulo a span, and which of them is nearest. Assumes nothing.
-use Rattle.std.proofs.Common.{◌≡◌, ℕ, zero, suc, ◌+◌, ◌-◌, ◌*◌, ◌/◌, ◌%◌, ◌<◌, ◌≤◌, Bool, true, false, cond, not, T, ltb, ℤ, pos, negsuc, ◌+ℤ◌, ◌-ℤ◌, ◌*ℤ◌, Some, None, Option, sym, refl, ap, ◌∙◌, subst, mod-lt, suc-mul, add-mul, div-add-mod', arith, ltb→lt, nltb→le}
+use Rattle.std.proofs.Common.{◌≡◌, ℕ, suc, ◌+◌, ◌-◌, ◌*◌, ◌/◌, ◌%◌, ◌<◌, Bool, true, false, cond, ltb, ℤ, pos, negsuc, ◌+ℤ◌, ◌-ℤ◌, ◌*ℤ◌, Some, None, Option, ◌⊎◌, inl, inr, sym, refl, ap, ◌∙◌, subst, mod-lt, suc-mul, add-mul, div-add-mod', arith}
 use lib.IntN.{ℤ_discrete}
 use Rattle.std.proofs.lemmas.Int.{ints}
-use Rattle.std.proofs.lemmas.Bool.{lt-ltb, le-ltb}
-use Rattle.placing.specs.Nearest.{Agrees, Nearest, distance, rest, by_rest, nearest, labels_apart, Found}
+use Rattle.std.proofs.lemmas.Bool.{ltb-true, ltb-false, cases_order}
+use Rattle.placing.specs.Nearest.{Agrees, Nearest, distance, rest, nearest, labels_apart, Found}
 
 -- ---- agreement
 
@@ -32,15 +32,12 @@ pub data Order (u v : ℕ) : Type 0 where
   long : (m : ℕ) → u ≡ v + suc m → Order u v
 
 pub order : (u v : ℕ) → Order u v
-order zero zero = level_with refl
-order zero (suc v) = short v (omega arith)
-order (suc u) zero = long u (omega arith)
-order (suc u) (suc v) = by (order u v)
+order u v = by (cases_order u v)
   where
-    by : Order u v → Order (suc u) (suc v)
-    by (level_with e) = level_with (omega arith)
-    by (short m e) = short m (omega arith)
-    by (long m e) = long m (omega arith)
+    by : (u ≡ v) ⊎ ((u < v) ⊎ (v < u)) → Order u v
+    by (inl e) = level_with e
+    by (inr (inl l)) = short (v - suc u) (omega arith)
+    by (inr (inr l)) = long (u - suc v) (omega arith)
 
 apart_by : (span : ℕ) (d e : ℤ) (u v : ℕ) → d +ℤ pos (u * span) ≡ e +ℤ pos (v * span) → Order u v → Apart span d e
 apart_by span d e u v h (level_with m) = let k = ap (λ n. n * span) m in equal (omega (arith, ints))
@@ -73,9 +70,6 @@ agree span d e p q h = by (order p q)
     by (long m is) =
         let k = ap (λ n. n * span) is ∙ add-mul q (suc m) span in
         record { turns = negsuc m; same = omega (arith, ints) }
-
-pub agree_back : (span : ℕ) (d e : ℤ) → Agrees span d e → Agrees span e d
-agree_back span d e a = let p = level span d e a in agree span e d p.less p.more (sym p.meet)
 
 -- ---- the nearest
 
@@ -162,11 +156,11 @@ rest_less (negsuc n) span h = omega arith
 -- `nearest` finds what is nearest
 found_by : (span : ℕ) (labels : ℤ) (gap r : ℕ) → 0 < span → r < span → Agrees span (pos (gap + r)) labels → (a b : Bool) → ltb (2 * r) span ≡ a → ltb span (2 * r) ≡ b →
     Found span labels gap (cond a (Some (pos (gap + r))) (cond b (Some (pos (gap + r) -ℤ pos span)) None))
-found_by span labels gap r p l a true b e f = after span labels gap r a (ltb→lt (2 * r) span (subst T (sym e) tt))
-found_by span labels gap r p l a false true e f = before span labels gap r a l (ltb→lt span (2 * r) (subst T (sym f) tt))
+found_by span labels gap r p l a true b e f = after span labels gap r a (ltb-true (2 * r) span e)
+found_by span labels gap r p l a false true e f = before span labels gap r a l (ltb-true span (2 * r) f)
 found_by span labels gap r p l a false false e f =
-    let lo = nltb→le (2 * r) span (subst (λ c. T (not c)) (sym e) tt) in
-    let hi = nltb→le span (2 * r) (subst (λ c. T (not c)) (sym f) tt) in
+    let lo = ltb-false (2 * r) span e in
+    let hi = ltb-false span (2 * r) f in
     between span labels gap r a p (omega arith)
 
 pub finds_nearest : (span : ℕ) (labels : ℤ) (gap : ℕ) → 0 < span → Found span labels gap (nearest span labels gap)
@@ -174,6 +168,12 @@ finds_nearest span labels gap h =
     let r = rest (labels -ℤ pos gap) span in
     found_by span labels gap r h (rest_less (labels -ℤ pos gap) span h) (raised span labels gap r (rest_agrees (labels -ℤ pos gap) span h))
     (ltb (2 * r) span) (ltb span (2 * r)) refl refl
+
+pub some_found : (span : ℕ) (labels : ℤ) (gap : ℕ) (d : ℤ) → 0 < span → Some d ≡ nearest span labels gap → Nearest span labels gap d
+some_found span labels gap d h e = subst (Found span labels gap) (sym e) (finds_nearest span labels gap h)
+
+pub none_found : (span : ℕ) (labels : ℤ) (gap : ℕ) → 0 < span → None ≡ nearest span labels gap → (d : ℤ) → Nearest span labels gap d → ⊥
+none_found span labels gap h e = subst (Found span labels gap) (sym e) (finds_nearest span labels gap h)
 
 -- what is nearest is found
 found_is : (span : ℕ) (labels : ℤ) (gap : ℕ) (d : ℤ) (o : Option ℤ) → Found span labels gap o → Nearest span labels gap d → o ≡ Some d
@@ -215,17 +215,6 @@ rest_computed span unit from to gap h =
     (agree span (pos (turn % span)) z (turn / span + ahead / span) (1 + behind / span) (omega (arith, ints)))
     (rest_agrees z span h)
 
-pub rest_is : (span unit from to gap s a b f g : ℕ) → 0 < span → s ≡ span → a ≡ to → b ≡ unit → f ≡ from → g ≡ unit
-    → (a * b % s + s - (f * g + gap) % s) % s ≡ rest (labels_apart unit from to -ℤ pos gap) span
+pub rest_is : (span unit from to gap s a b f g : ℕ) → 0 < span → s ≡ span → a ≡ to → b ≡ unit → f ≡ from → g ≡ gap
+    → (a * b % s + s - (f * b + g) % s) % s ≡ rest (labels_apart unit from to -ℤ pos gap) span
 rest_is span unit from to gap s a b f g h es ea eb ef eg = rw (es, ea, eb, ef, eg) (rest_computed span unit from to gap h)
-
--- the three ways of `by_rest`
-pub by_after : (span gap r q : ℕ) → r ≡ q → 2 * r < span → by_rest span gap q ≡ Some (pos (gap + r))
-by_after span gap r q e h =
-    ap (by_rest span gap) (sym e) ∙ ap (λ b. cond b (Some (pos (gap + r))) (cond (ltb span (2 * r)) (Some (pos (gap + r) -ℤ pos span)) None)) (lt-ltb (2 * r) span h)
-
-pub by_before : (span gap r q : ℕ) → r ≡ q → span ≤ 2 * r → span < 2 * r → by_rest span gap q ≡ Some (pos (gap + r) -ℤ pos span)
-by_before span gap r q e l h =
-    ap (by_rest span gap) (sym e)
-    ∙ ap (λ b. cond b (Some (pos (gap + r))) (cond (ltb span (2 * r)) (Some (pos (gap + r) -ℤ pos span)) None)) (le-ltb (2 * r) span l)
-    ∙ ap (λ b. cond b (Some (pos (gap + r) -ℤ pos span)) None) (lt-ltb span (2 * r) h)

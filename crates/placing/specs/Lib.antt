@@ -1,7 +1,7 @@
 pub mod Nearest
 pub mod Placing
+pub mod News
 pub mod Receiving
-pub mod Seen
 pub mod Lists
 pub mod Arrivals
 pub mod Rows

@@ -33,7 +33,7 @@ module _ {M : Type 0} where
 
     abbrev pub told_as : Option M → Payload M → Told Moved → Told (MessageNews M)
     told_as force x (News m) =
-        News (record { class = class_of force x; redundancy = x.redundancy; elapsed = m.elapsed; position = m.position; message = x.message })
+        News (record { class = class_of force x; redundancy = x.redundancy; moved = m; message = x.message })
     told_as force x Repeat = Repeat
     told_as force x Late = Late
 

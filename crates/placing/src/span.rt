@@ -1,35 +1,76 @@
-// After how much time the labels of a stream repeat.
-ghost use Rattle.std.specs.Prelude.{◌≡◌, true, nat_lt};
-ghost use Rattle.profile.specs.Labels.{span_of};
+// After how much time the labels of a stream repeat, and what they count.
+ghost use Rattle.std.specs.Prelude.{◌≡◌, ◌<◌};
+ghost use Rattle.profile.specs.Labels.{interval_of, span_of};
 
 use profile::profile::Profile;
+use std::marker::Model;
 
-// Some milliseconds, at least one.
-#[derive(Clone, Copy)]
+// Some milliseconds, at least one. In contracts it is that number.
+#[derive(Clone, Copy, Debug, PartialEq, Eq)]
 pub struct Span {
     ms: u32,
-    ghost some: { nat_lt 0 ms ≡ true },
+}
+
+impl Model for Span {
+    ghost use Rattle.std.specs.Prelude.{ℕ, ◌<◌};
+
+    ghost Value = { ℕ };
+
+    ghost view = { λ s. s.ms };
+
+    ghost invariant = { λ s. 0 < s.ms };
+
+    ghost inverse = { λ n. record { ms = n } };
 }
 
 impl Span {
     // That of a message stream: stamps are times modulo 16,384.
     pub fn of_stamps() -> Span
-        ensures { result.ms ≡ 16384 }
+        ensures { result ≡ 16384 }
     {
         Span { ms: 16384 }
     }
 
     // That of the audio stream under a profile.
     pub fn of_profile(profile: &Profile) -> Span
-        ensures { result.ms ≡ span_of profile.now.entries.items }
+        ensures { result ≡ span_of profile.now }
     {
-        let span = profile.span();
-        Span { ms: span }
+        Span { ms: profile.span() }
     }
 
     pub fn get(self) -> u32
-        ensures { result ≡ self.ms }
+        ensures value { result ≡ self }
+        ensures some { 0 < result }
     {
         self.ms
+    }
+}
+
+// Labels repeat after the span, and count units of so many milliseconds.
+#[derive(Clone, Copy, Debug, PartialEq, Eq)]
+pub struct Labelling {
+    pub span: Span,
+    pub unit: u16,
+}
+
+impl Labelling {
+    // That of a message stream: stamps count milliseconds.
+    pub fn of_stamps() -> Labelling
+        ensures { result ≡ record { span = 16384; unit = 1 } }
+    {
+        Labelling {
+            span: Span::of_stamps(),
+            unit: 1,
+        }
+    }
+
+    // That of the audio stream under a profile: labels count intervals.
+    pub fn of_profile(profile: &Profile) -> Labelling
+        ensures { result ≡ record { span = span_of profile.now; unit = interval_of profile.now } }
+    {
+        Labelling {
+            span: Span::of_profile(profile),
+            unit: profile.interval(),
+        }
     }
 }

@@ -3,14 +3,15 @@ ghost use Rattle.std.specs.Prelude.{◌≡◌, None};
 ghost use Rattle.placing.specs.Placing.{place, by_sign};
 ghost use Rattle.placing.specs.Arrivals.{StampsTell, LabelsTell, PlacedWhereMade, PlacesRightly};
 ghost use Rattle.placing.specs.Rows.{RowsHold};
+ghost use Rattle.placing.specs.News.{IfNews, Changed};
 
-use crate::near::nearest;
-use crate::span::Span;
+use crate::span::Labelling;
 use refusal::times::{Time, is_time};
 use refusal::{PlacingFault, Refusal};
+use std::marker::Model;
 
 // The latest news of a stream: its label, when it arrived, and the time since the first news.
-#[derive(Clone, Copy)]
+#[derive(Clone, Copy, Debug, PartialEq, Eq)]
 pub struct Placed {
     pub label: u16,
     pub arrival: u64,
@@ -18,29 +19,54 @@ pub struct Placed {
 }
 
 // What an arrival is on its stream.
-#[derive(Clone, Copy)]
+#[derive(Clone, Copy, Debug, PartialEq, Eq)]
 pub enum Told<T> {
     News(T),
     Repeat,
     Late,
 }
 
+impl<T> Told<T> {
+    // News is changed, all else stays.
+    pub fn map<U, F: FnOnce(T) -> U>(self, change: F) -> Told<U>
+        requires { IfNews self (F.pre change) }
+        ensures { Changed (F.post change) self result }
+    {
+        match self {
+            Told::News(news) => Told::News(change(news)),
+            Told::Repeat => Told::Repeat,
+            Told::Late => Told::Late,
+        }
+    }
+}
+
 // The time since the news before, and since the first news.
-#[derive(Clone, Copy)]
+#[derive(Clone, Copy, Debug, PartialEq, Eq)]
 pub struct Moved {
     pub elapsed: u64,
     pub position: u64,
 }
 
-// A stream holds its latest news, if there was any.
-#[derive(Clone, Copy)]
+// A stream holds its latest news, if there was any. In contracts it is that.
+#[derive(Clone, Copy, Debug, PartialEq, Eq)]
 pub struct Stream {
     pub(crate) latest: Option<Placed>,
 }
 
+impl Model for Stream {
+    ghost use Rattle.std.specs.Prelude.{Option};
+    ghost use Rattle.placing.specs.declared.stream.Placed.{Placed};
+
+    ghost Value = { Option Placed };
+
+    ghost view = { λ s. s.latest };
+
+    ghost inverse = { λ latest. record { latest = latest } };
+}
+
 impl Stream {
     pub fn new() -> Stream
-        ensures latest { result.latest ≡ None }
+        ensures latest { result ≡ None }
         ensures stamps { StampsTell }
         ensures labels { LabelsTell }
         ensures placed { PlacedWhereMade }
@@ -50,23 +76,21 @@ impl Stream {
         Stream { latest: None }
     }
 
-    // An arrival with this label, on a stream whose labels repeat after the span and count so many milliseconds.
+    // An arrival with this label.
     pub fn place(
         &mut self,
-        span: Span,
-        unit: u16,
+        labelling: Labelling,
         label: u16,
         time: Time,
     ) -> Result<Told<Moved>, Refusal>
-        ensures value { result ≡ (place span.ms unit self.old.latest label time.ms).0 }
-        ensures after { self.new.latest ≡ (place span.ms unit self.old.latest label time.ms).1 }
+        ensures value { result ≡ (place labelling.span labelling.unit self.old label time).0 }
+        ensures after { self.new ≡ (place labelling.span labelling.unit self.old label time).1 }
     {
-        let arrival = time.get();
-        let told = beside(span, unit, self.latest, label, time)?;
+        let told = beside(labelling, self.latest, label, time)?;
         if let Told::News(moved) = told {
             self.latest = Some(Placed {
                 label,
-                arrival,
+                arrival: time.get(),
                 position: moved.position,
             });
         }
@@ -76,13 +100,12 @@ impl Stream {
 
 // What the arrival is, beside the latest news.
 fn beside(
-    span: Span,
-    unit: u16,
+    labelling: Labelling,
     latest: Option<Placed>,
     label: u16,
     time: Time,
 ) -> Result<Told<Moved>, Refusal>
-    ensures { result ≡ (place span.ms unit latest label time.ms).0 }
+    ensures { result ≡ (place labelling.span labelling.unit latest label time).0 }
 {
     let Some(before) = latest else {
         return Ok(Told::News(Moved {
@@ -90,11 +113,11 @@ fn beside(
             position: 0,
         }));
     };
-    let gap = time.get().saturating_sub(before.arrival);
-    match nearest(span, unit, before.label, label, gap) {
-        None => Err(Refusal::Placing(PlacingFault::EquallyNear)),
-        Some(elapsed) => by_sign(before.position, elapsed),
-    }
+    let gap = time.since(before.arrival);
+    let elapsed = labelling
+        .nearest(before.label, label, gap)
+        .ok_or(PlacingFault::EquallyNear)?;
+    by_sign(before.position, elapsed)
 }
 
 // The sign of the elapsed time decides.
@@ -108,8 +131,9 @@ fn by_sign(position: u64, elapsed: i64) -> Result<Told<Moved>, Refusal>
         return Ok(Told::Repeat);
     }
     let elapsed = elapsed as u64;
-    match position.checked_add(elapsed) {
-        Some(position) if is_time(position) => Ok(Told::News(Moved { elapsed, position })),
-        _ => Err(Refusal::Placing(PlacingFault::PositionOutOfRange)),
-    }
+    let position = position
+        .checked_add(elapsed)
+        .filter(|position| is_time(*position))
+        .ok_or(PlacingFault::PositionOutOfRange)?;
+    Ok(Told::News(Moved { elapsed, position }))
 }

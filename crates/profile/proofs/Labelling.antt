@@ -1,11 +1,11 @@
 -- Labels lie in their entry's range, and count time. Assumes nothing.
-use Rattle.std.proofs.Common.{◌≡◌, ℕ, ◌+◌, ◌/◌, ◌%◌, ◌<◌, ◌≤◌, false, List, [], ◌∷◌, is_some, Some, None, Option, sym, refl, ap, ◌∙◌, subst, mod-lt, mul-pos, zero-add, arith}
+use Rattle.std.proofs.Common.{◌≡◌, ℕ, ◌+◌, ◌/◌, ◌%◌, ◌≤◌, false, List, is_some, Some, None, Option, sym, refl, ap, ◌∙◌, subst, mod-lt, zero-add, arith}
 use native.Mathlib.Nat.{mod-mod, add-mod}
 use Rattle.std.specs.List.{slice_get}
 use Rattle.std.specs.Option.{option_map}
 use Rattle.profile.specs.declared.entry.Entry.{Entry}
 use Rattle.profile.specs.Questions.{width, refusal}
-use Rattle.profile.specs.Labels.{label, label_at, interval_of, span_of}
+use Rattle.profile.specs.Labels.{label, label_at, interval_of}
 use Rattle.profile.specs.Guarantees.{Labelled}
 use Rattle.profile.proofs.Sound.{ZeroOne, never, Numbers, numbers_at, one_width, one_interval}
 
@@ -43,8 +43,3 @@ labelled es h place t = by (slice_get es place) refl
 
 pub labelled_by : (es : List Entry) → is_some (refusal es) ≡ false → (place t : ℕ) (r : Option ℕ) → r ≡ label_at es place t → Labelled es place t r
 labelled_by es h place t r is = subst (λ o. Labelled es place t o) (sym is) (labelled es h place t)
-
--- a profile spans some time
-pub span_positive : (es : List Entry) → is_some (refusal es) ≡ false → 0 < span_of es
-span_positive [] h = let z : ZeroOne = cc in never z
-span_positive (x ∷ es) h = let n = numbers_at (x ∷ es) h 0 x refl in mul-pos n.wide n.slow

@@ -1,15 +1,15 @@
-use Rattle.std.proofs.Common.{refl}
 use Rattle.placing.proofs.Telling.{stamps_tell, labels_tell, placed_where_made}
 use Rattle.placing.proofs.Rightly.{places_rightly}
-use Rattle.placing.proofs.Examples.{rows_hold}
 use Rattle.placing.proofs.stream.Stream.new.Goals as goal
 
-pub returns : goal.returns
-returns c = record {
-  latest = refl;
-  stamps = stamps_tell;
-  labels = labels_tell;
-  placed = placed_where_made;
-  rightly = places_rightly;
-  rows = rows_hold;
-}
+pub returns-clause-stamps : goal.returns-clause-stamps
+returns-clause-stamps c = stamps_tell
+
+pub returns-clause-labels : goal.returns-clause-labels
+returns-clause-labels c = labels_tell
+
+pub returns-clause-placed : goal.returns-clause-placed
+returns-clause-placed c = placed_where_made
+
+pub returns-clause-rightly : goal.returns-clause-rightly
+returns-clause-rightly c = places_rightly
