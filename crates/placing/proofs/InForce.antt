@@ -1,5 +1,6 @@
 -- The message in force is that of the latest news. Assumes nothing.
-use Rattle.std.proofs.Common.{◌≡◌, Bool, true, false, cond, List, [], ◌∷◌, Some, None, Ok, Err, Option, Result, refl, ap, ◌∙◌}
+use Rattle.std.proofs.Common.{◌≡◌, Bool, cond, List, [], ◌∷◌, Some, None, Option, Result, refl, ap, ◌∙◌, arith}
+use Rattle.std.proofs.lemmas.Grind.{common_steps}
 use Rattle.std.specs.Option.{option_map}
 use Rattle.refusal.specs.declared.Refusal.{Refusal}
 use Rattle.type3.specs.Kinds.{Meaning}
@@ -7,7 +8,6 @@ use Rattle.type3.specs.declared.payload.Payload.{Payload}
 use Rattle.placing.specs.declared.stream.Placed.{Placed}
 use Rattle.placing.specs.declared.stream.Moved.{Moved}
 use Rattle.placing.specs.declared.stream.Told.{Told}
-use Rattle.placing.specs.declared.stream.Told.TheVariants.{News, Repeat, Late}
 use Rattle.placing.specs.Lists.{those, last}
 use Rattle.placing.specs.Placing.{place}
 use Rattle.placing.specs.Receiving.{Inbound, new_receiver, receive_by, receive}
@@ -19,24 +19,18 @@ or_else None o = o
 or_else (Some x) o = Some x
 
 or_none : {X : Type 0} (o : Option X) → or_else o None ≡ o
-or_none None = refl
-or_none (Some x) = refl
+or_none o = grind (arith, common_steps)
 
 -- one more at the front, if it passes
 one_more : {X Y : Type 0} (f : X → Y) (x : X) (xs : List X) (o : Option Y) (b : Bool)
     → or_else (option_map f (last xs)) (cond b (Some (f x)) o) ≡ or_else (option_map f (last (cond b (x ∷ xs) xs))) o
-one_more f x xs o false = refl
-one_more f x [] o true = refl
-one_more f x (y ∷ ys) o true = refl
+one_more f x xs o b = grind (arith, common_steps)
 
 module _ {M : Type 0} (k : Meaning M) where
   -- one arrival puts its message in force where it is news
   forced : (s : Inbound M) (x : Payload M) (r : Result (Told Moved) Refusal) (placed : Option Placed)
       → (receive_by k s x r placed).1.force ≡ cond (is_news (receive_by k s x r placed).0) (Some x.message) s.force
-  forced s x (Err f) placed = refl
-  forced s x (Ok (News m)) placed = refl
-  forced s x (Ok Repeat) placed = refl
-  forced s x (Ok Late) placed = refl
+  forced s x r placed = grind (arith, common_steps)
 
   abbrev latest_of : List (Heard k) → Option M
   latest_of hs = option_map (λ h. h.arrival.says.message) (last (those (λ h. is_news h.answer) hs))

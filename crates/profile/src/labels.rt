@@ -7,7 +7,6 @@ ghost use Rattle.profile.specs.Guarantees.{Guarantees, Found, Labelled};
 
 use crate::entry::Entry;
 use crate::profile::Profile;
-use crate::questions::width_of;
 
 impl Profile {
     // The entry at a place, from 0.
@@ -24,9 +23,7 @@ impl Profile {
         ensures value { result ≡ find self.now uui length }
         ensures found { Found self.now uui length result }
     {
-        self.entries
-            .iter()
-            .position(|entry| has(*entry, uui, length))
+        self.entries.iter().position(|entry| entry.has(uui, length))
     }
 
     // The label of a time under the entry at a place: its UUI.
@@ -36,7 +33,7 @@ impl Profile {
         ensures labelled { Labelled self.now place time result }
     {
         let entry = self.entry(place)?;
-        let intervals = time / u64::from(entry.interval) % u64::from(width_of(entry));
+        let intervals = time / u64::from(entry.interval) % u64::from(entry.width());
         Some(entry.first + intervals as u16)
     }
 
@@ -57,13 +54,15 @@ impl Profile {
         ensures sound { is_some (refusal self.now) ≡ false }
     {
         let first = self.entries[0];
-        width_of(first) * u32::from(first.interval)
+        first.width() * u32::from(first.interval)
     }
 }
 
-// Whether the entry has packets with this UUI and length.
-fn has(entry: Entry, uui: u16, length: usize) -> bool
-    ensures { result ≡ has entry uui length }
-{
-    entry.first <= uui && uui <= entry.last && usize::from(entry.length) == length
+impl Entry {
+    // Whether it has packets with this UUI and length.
+    fn has(self, uui: u16, length: usize) -> bool
+        ensures { result ≡ has self uui length }
+    {
+        self.first <= uui && uui <= self.last && usize::from(self.length) == length
+    }
 }

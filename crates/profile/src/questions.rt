@@ -10,16 +10,16 @@ use refusal::{ProfileFault, Refusal};
 pub(crate) fn check_entry(before: &[Entry], place: usize, entry: Entry) -> Result<(), Refusal>
     ensures { result ≡ allowed (first_no (questions before.now place entry)) }
 {
-    if !in_range(entry) {
+    if !entry.in_range() {
         return Err(Refusal::Profile(ProfileFault::UuiRange, place));
     }
-    if !good_length(entry) {
+    if !entry.good_length() {
         return Err(Refusal::Profile(ProfileFault::EntryLength, place));
     }
-    if !aligned(entry) {
+    if !entry.aligned() {
         return Err(Refusal::Profile(ProfileFault::Width, place));
     }
-    if !good_times(entry) {
+    if !entry.good_times() {
         return Err(Refusal::Profile(ProfileFault::Times, place));
     }
     if !like_first(before, entry) {
@@ -31,40 +31,49 @@ pub(crate) fn check_entry(before: &[Entry], place: usize, entry: Entry) -> Resul
     Ok(())
 }
 
-fn in_range(entry: Entry) -> bool
-    ensures { result ≡ in_range entry }
-{
-    entry.first <= entry.last && entry.last <= 15
-}
+impl Entry {
+    fn in_range(self) -> bool
+        ensures { result ≡ in_range self }
+    {
+        self.first <= self.last && self.last <= 15
+    }
 
-fn good_length(entry: Entry) -> bool
-    ensures { result ≡ good_length entry }
-{
-    1 <= entry.length && entry.length <= 64
-}
+    fn good_length(self) -> bool
+        ensures { result ≡ good_length self }
+    {
+        1 <= self.length && self.length <= 64
+    }
 
-// How many UUIs the entry has, where its range is in order.
-pub(crate) fn width_of(entry: Entry) -> u32
-    ensures { result ≡ width entry }
-{
-    u32::from(entry.last.saturating_sub(entry.first)) + 1
-}
+    // How many UUIs it has, where its range is in order.
+    pub(crate) fn width(self) -> u32
+        ensures { result ≡ width self }
+    {
+        u32::from(self.last.saturating_sub(self.first)) + 1
+    }
 
-fn aligned(entry: Entry) -> bool
-    ensures { result ≡ aligned entry }
-{
-    let width = width_of(entry);
-    matches!(width, 1 | 2 | 4 | 8 | 16) && u32::from(entry.first) % width == 0
-}
+    fn aligned(self) -> bool
+        ensures { result ≡ aligned self }
+    {
+        let width = self.width();
+        matches!(width, 1 | 2 | 4 | 8 | 16) && u32::from(self.first) % width == 0
+    }
 
-fn good_times(entry: Entry) -> bool
-    ensures { result ≡ good_times entry }
-{
-    1 <= entry.interval
-        && entry.interval <= 255
-        && 1 <= entry.packet_time
-        && entry.packet_time <= 65535
-        && entry.packet_time % u32::from(entry.interval) == 0
+    fn good_times(self) -> bool
+        ensures { result ≡ good_times self }
+    {
+        1 <= self.interval
+            && self.interval <= 255
+            && 1 <= self.packet_time
+            && self.packet_time <= 65535
+            && self.packet_time % u32::from(self.interval) == 0
+    }
+
+    // Whether it has the range and the length of another.
+    fn alike(self, other: Entry) -> bool
+        ensures { result ≡ alike self other }
+    {
+        self.first == other.first && self.last == other.last && self.length == other.length
+    }
 }
 
 // Whether the entry has the width and the interval of the first one.
@@ -73,7 +82,7 @@ fn like_first(before: &[Entry], entry: Entry) -> bool
 {
     match before {
         [] => true,
-        [first, ..] => width_of(entry) == width_of(*first) && entry.interval == first.interval,
+        [first, ..] => entry.width() == first.width() && entry.interval == first.interval,
     }
 }
 
@@ -81,11 +90,5 @@ fn like_first(before: &[Entry], entry: Entry) -> bool
 fn differs(before: &[Entry], one: Entry) -> bool
     ensures { result ≡ differs before.now one }
 {
-    before.iter().all(|earlier| !alike(*earlier, one))
-}
-
-fn alike(one: Entry, other: Entry) -> bool
-    ensures { result ≡ alike one other }
-{
-    one.first == other.first && one.last == other.last && one.length == other.length
+    before.iter().all(|earlier| !earlier.alike(one))
 }

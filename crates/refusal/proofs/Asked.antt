@@ -1,7 +1,7 @@
 -- Questions: either one was answered no, or all were answered yes. Assumes nothing.
 use Rattle.std.proofs.Common.{◌≡◌, ℕ, Bool, true, false, cond, List, [], ◌∷◌, Ok, Err, Some, None, Option, Result, sym, refl, ap, ◌∙◌, subst, arith}
 use Rattle.std.specs.List.{AllByRecursion}
-use Rattle.refusal.specs.Questions.{asked, allowed, unless}
+use Rattle.refusal.specs.Questions.{asked, allowed}
 
 -- each is answered yes
 abbrev pub Yes : {X : Type 0} → List (Bool × X) → Type 0
@@ -54,7 +54,7 @@ module _ {F T : Type 0} (So : F → Type 0) (f : F) where
   refusal_so [] does so own e = own e
   refusal_so (q ∷ qs) does so own e = given q.0 q.1 (asked qs (λ x. Err x) does) so.0 (refusal_so qs does so.1 own) e
 
--- a call with a state, by the answer of its test
+-- a test by its answer
 module _ {F : Type 0} where
   pub allowed_err : (o : Option F) (f : F) → allowed o ≡ Err f → o ≡ Some f
   allowed_err None f e = let z : ◌≡◌ {A = ℕ} 0 1 = cc in absurd (omega arith)
@@ -63,10 +63,3 @@ module _ {F : Type 0} where
   pub allowed_ok : (o : Option F) → allowed o ≡ Ok tt → o ≡ None
   allowed_ok None e = refl
   allowed_ok (Some x) e = let z : ◌≡◌ {A = ℕ} 0 1 = cc in absurd (omega arith)
-
-  module _ {S X : Type 0} (o : Option F) (s : S) (does : Result X F × S) where
-    pub unless_err : (f : F) → allowed o ≡ Err f → unless o s does ≡ (Err f, s)
-    unless_err f e = ap (λ q. unless q s does) (allowed_err o f e)
-
-    pub unless_ok : allowed o ≡ Ok tt → unless o s does ≡ does
-    unless_ok e = ap (λ q. unless q s does) (allowed_ok o e)
