@@ -35,75 +35,72 @@ fn run(rt: &HostRuntime) -> anyhow::Result<()> {
     let mut args = env::args(rt)?;
     let _program = args.next();
     let number = args.next();
-    dial(rt, number.as_ref().map_or(NUMBER, |number| number.as_str()))?;
+    let sender = Sender::<Digits>::new();
+    Line { rt, sender }.dial(number.as_ref().map_or(NUMBER, |number| number.as_str()))?;
     hostile(rt)?;
     talk(rt)
 }
 
-// Each key of the number, and what is due until the next.
-fn dial(rt: &HostRuntime, number: &str) -> anyhow::Result<()> {
-    let mut sender = Sender::<Digits>::new();
-    for (place, key) in number.chars().enumerate() {
-        let time = KEY_TIME.saturating_mul(place as u64);
-        match Digit::of_key(key, LEVEL) {
-            Ok(digit) => press(rt, &mut sender, key, time, digit)?,
-            Err(refusal) => println!(rt; "key {key}: {refusal}")?,
+// A stream of digits over a perfect line, and where it is shown.
+#[derive(Drop)]
+struct Line<'a> {
+    rt: &'a HostRuntime,
+    sender: Sender<Digits>,
+}
+
+impl<'a> Line<'a> {
+    // Each key of the number, and what is due until the next.
+    fn dial(&mut self, number: &str) -> anyhow::Result<()> {
+        for (place, key) in number.chars().enumerate() {
+            let time = KEY_TIME.saturating_mul(place as u64);
+            match Digit::of_key(key, LEVEL) {
+                Ok(digit) => self.press(key, time, digit)?,
+                Err(refusal) => println!(self.rt; "key {key}: {refusal}")?,
+            }
+        }
+        Ok(())
+    }
+
+    // A key is pressed, held and let go.
+    fn press(&mut self, key: char, time: u64, digit: Digit) -> anyhow::Result<()> {
+        println!(self.rt; "key {key} at {time}")?;
+        self.tone(time, digit, TONE_TIME)?;
+        let end = time.saturating_add(TONE_TIME);
+        match Digit::new(System::Dtmf.into(), TONE_OFF, LEVEL) {
+            Ok(off) => self.tone(end, off, KEY_TIME - TONE_TIME),
+            Err(refusal) => refused(self.rt, refusal),
         }
     }
-    Ok(())
-}
 
-// A key is pressed, held and let go.
-fn press(
-    rt: &HostRuntime,
-    sender: &mut Sender<Digits>,
-    key: char,
-    time: u64,
-    digit: Digit,
-) -> anyhow::Result<()> {
-    println!(rt; "key {key} at {time}")?;
-    tone(rt, sender, time, digit, TONE_TIME)?;
-    let end = time.saturating_add(TONE_TIME);
-    match Digit::new(System::Dtmf.into(), TONE_OFF, LEVEL) {
-        Ok(off) => tone(rt, sender, end, off, KEY_TIME - TONE_TIME),
-        Err(refusal) => refused(rt, refusal),
-    }
-}
-
-// An event, and what is due at each millisecond for a while.
-fn tone(
-    rt: &HostRuntime,
-    sender: &mut Sender<Digits>,
-    time: u64,
-    digit: Digit,
-    length: u64,
-) -> anyhow::Result<()> {
-    if let Err(refusal) = sender.event(time, digit) {
-        return refused(rt, refusal);
-    }
-    for moment in 0..length {
-        ask(rt, sender, time.saturating_add(moment))?;
-    }
-    Ok(())
-}
-
-// What is due at a time, and what the far end reads.
-fn ask(rt: &HostRuntime, sender: &mut Sender<Digits>, time: u64) -> anyhow::Result<()> {
-    let mut octets = [0u8; 6];
-    match pass(sender, time, &mut octets) {
-        Ok(Some(payload)) => {
-            let sent = Hex(&octets);
-            let redundancy = payload.redundancy.get();
-            let stamp = payload.stamp.get();
-            let code = payload.message.code();
-            let level = payload.message.level();
-            println!(rt;
-                "  {time}: {sent} reads code {code}, level {level}, redundancy {redundancy}, stamp {stamp}"
-            )?;
-            Ok(())
+    // An event, and what is due at each millisecond for a while.
+    fn tone(&mut self, time: u64, digit: Digit, length: u64) -> anyhow::Result<()> {
+        if let Err(refusal) = self.sender.event(time, digit) {
+            return refused(self.rt, refusal);
         }
-        Ok(None) => Ok(()),
-        Err(refusal) => refused(rt, refusal),
+        for moment in time..time.saturating_add(length) {
+            self.ask(moment)?;
+        }
+        Ok(())
+    }
+
+    // What is due at a time, and what the far end reads.
+    fn ask(&mut self, time: u64) -> anyhow::Result<()> {
+        let mut octets = [0u8; 6];
+        match pass(&mut self.sender, time, &mut octets) {
+            Ok(Some(payload)) => {
+                let sent = Hex(&octets);
+                let redundancy = payload.redundancy.get();
+                let stamp = payload.stamp.get();
+                let code = payload.message.code();
+                let level = payload.message.level();
+                println!(self.rt;
+                    "  {time}: {sent} reads code {code}, level {level}, redundancy {redundancy}, stamp {stamp}"
+                )?;
+                Ok(())
+            }
+            Ok(None) => Ok(()),
+            Err(refusal) => refused(self.rt, refusal),
+        }
     }
 }
 

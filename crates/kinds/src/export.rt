@@ -8,7 +8,7 @@ ghost use Rattle.kinds.specs.Export.{type_of, number_told, told, Apart};
 use crate::cas::{Cas, CasBits};
 use crate::digit::Digit;
 use crate::digits::Digits;
-use refusal::Refusal;
+use refusal::{Refusal, Type3Fault};
 use type3::kind::Kind;
 use type3::payload::{Either, Payload};
 use type3::reading::read_either;
@@ -20,7 +20,7 @@ pub fn gublaisma_read_type3(payload: &[u8]) -> u32
     ensures apart { Apart (read_either digits cas payload.now) result }
 {
     let [first, second, ..] = payload else {
-        return 23;
+        return refused(Type3Fault::PayloadSize.into());
     };
     let head = u32::from(*first) * 256 + u32::from(*second);
     match read_either::<Digits, Cas>(payload) {

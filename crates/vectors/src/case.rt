@@ -8,27 +8,34 @@ use std::alloc::Global;
 
 // A line that is no case, or has a number out of its range, is a bad one.
 pub fn answer_to(heap: Global, line: &str) -> anyhow::Result<Answer> {
-    let Some((what, rest)) = line.split_once(' ') else {
-        return Ok(Answer::BadLine);
-    };
-    match what {
-        "read" | "readwide" | "export" => match octets_of(heap, rest)? {
-            Some(octets) => Ok(answer_read(what, octets.as_slice())),
-            None => Ok(Answer::BadLine),
-        },
-        _ => {
+    let answer = match line.split_once(' ') {
+        Some(("read", octets)) => answer_octets(heap, octets, read)?,
+        Some(("readwide", octets)) => answer_octets(heap, octets, read_wide)?,
+        Some(("export", octets)) => answer_octets(heap, octets, export)?,
+        Some((what, rest)) => {
             let words: Vec<&str> = rest.split(' ').collect(heap)?;
-            Ok(answer_written(what, words.as_slice()).unwrap_or(Answer::BadLine))
+            answer_written(what, words.as_slice())
         }
-    }
+        None => None,
+    };
+    Ok(answer.unwrap_or(Answer::BadLine))
 }
 
-fn answer_read(what: &str, octets: &[u8]) -> Answer {
-    match what {
-        "read" => read(octets),
-        "readwide" => read_wide(octets),
-        _ => Answer::Told(gublaisma_read_type3(octets)),
-    }
+// What is answered to octets, where the text is such.
+fn answer_octets<F: FnOnce(&[u8]) -> Answer>(
+    heap: Global,
+    text: &str,
+    answer: F,
+) -> anyhow::Result<Option<Answer>>
+    requires { F.IsAlwaysCallable answer }
+{
+    let octets = octets_of(heap, text)?;
+    Ok(octets.map(|octets| answer(octets.as_slice())))
+}
+
+// What a C program is told.
+fn export(octets: &[u8]) -> Answer {
+    Answer::Told(gublaisma_read_type3(octets))
 }
 
 fn answer_written(what: &str, words: &[&str]) -> Option<Answer> {

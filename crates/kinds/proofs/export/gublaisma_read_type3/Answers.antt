@@ -8,6 +8,6 @@ returns-in-Err c =
     let o = c.args.payload.now in
     let e = c.in-Err.ensures.value in
     record {
-      value = c.refused.ensures ∙ ap (told_by o) e;
-      apart = subst (λ r. Apart r c.refused.result) e (subst (λ n. Apart (Err c.in-Err.refusal) n) (sym c.refused.ensures) (refused_told o c.in-Err.refusal (sym e)));
+      value = c.refused-in-Err.ensures ∙ ap (told_by o) e;
+      apart = subst (λ r. Apart r c.refused-in-Err.result) e (subst (λ n. Apart (Err c.in-Err.refusal) n) (sym c.refused-in-Err.ensures) (refused_told o c.in-Err.refusal (sym e)));
     }
