@@ -1,5 +1,4 @@
 // What a call is answered, in one line.
-use arrayvec::ArrayVec;
 use examples::hex::Hex;
 use examples::refused::Refused;
 use refusal::Refusal;
@@ -12,7 +11,7 @@ pub enum Answer {
     // the audio stream is new, under a profile
     Loaded,
     Accepted,
-    Octets(ArrayVec<u8, 16>),
+    Octets(Vec<u8>),
     Nothing,
     // an octet was changed that is none of a packet's
     Touched,

@@ -2,7 +2,8 @@
 // label audio has, or the refusal.
 #![tactic(auto)]
 
-use call::answer_to;
+use answer::Answer;
+use call::Call;
 use examples::lines::answer_lines;
 use streams::Streams;
 
@@ -15,5 +16,11 @@ mod streams;
 
 fn main(rt: HostRuntime) -> anyhow::Result<()> {
     let mut streams = Streams::new();
-    answer_lines(&rt, |heap, line| answer_to(heap, &mut streams, line))
+    answer_lines(&rt, |heap, line| {
+        let words: Vec<&str> = line.split(' ').collect(heap)?;
+        match Call::of(words.as_slice()) {
+            Some(call) => streams.answer(heap, call),
+            None => Ok(Answer::BadLine),
+        }
+    })
 }

@@ -5,9 +5,9 @@ ghost use Rattle.timing.specs.Answers.{to_event, count};
 
 use crate::answer::Answer;
 use crate::room::Room;
-use arrayvec::ArrayVec;
 use refusal::Refusal;
 use sending::sender::Sender;
+use std::alloc::{AllocError, Global};
 use type3::kind::Kind;
 
 // What stands in a buffer before a packet is written to it.
@@ -24,26 +24,24 @@ pub fn answer_event<K: Kind>(sender: &mut Sender<K>, time: u64, message: K::Mess
 }
 
 // What is due at a time, in a buffer of so many octets.
-pub fn answer_due<K: Kind>(sender: &mut Sender<K>, time: u64, room: Room) -> Answer
-    ensures { sender.new ≡ (due K.Kind.model sender.old time room).1 }
+pub fn answer_due<K: Kind>(
+    heap: Global,
+    sender: &mut Sender<K>,
+    time: u64,
+    room: Room,
+) -> Result<Answer, AllocError>
+    ensures { sender.new ≡ (due K.Kind.model sender.old time room.octets).1 }
 {
     let mut octets = [UNWRITTEN; 16];
     let told = sender.due(time, &mut octets[..room.get()]);
-    if octets
-        .iter()
-        .skip(count_of(told))
-        .any(|octet| *octet != UNWRITTEN)
-    {
-        return Answer::Touched;
+    let (written, rest) = octets.split_at(count_of(told));
+    if rest.iter().any(|octet| *octet != UNWRITTEN) {
+        return Ok(Answer::Touched);
     }
     match told {
-        Ok(Some(count)) => {
-            let mut written = ArrayVec::from(octets);
-            written.truncate(count);
-            Answer::Octets(written)
-        }
-        Ok(None) => Answer::Nothing,
-        Err(refusal) => Answer::Refused(refusal),
+        Ok(Some(_)) => Ok(Answer::Octets(Vec::from_slice(heap, written)?)),
+        Ok(None) => Ok(Answer::Nothing),
+        Err(refusal) => Ok(Answer::Refused(refusal)),
     }
 }
 

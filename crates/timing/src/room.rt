@@ -1,28 +1,16 @@
-// The length of a buffer, up to 16 octets. In contracts it is that number.
-ghost use Rattle.std.specs.Prelude.{◌≡◌, ◌≤◌, Some, None, if◌then◌else◌, nat_le};
-
-use std::marker::Model;
+// The length of a buffer, up to 16 octets.
+ghost use Rattle.std.specs.Prelude.{◌≡◌, true, Some, None, if◌then◌else◌, nat_le};
+ghost use Rattle.std.specs.Option.{option_map};
 
 #[derive(Clone, Copy)]
 pub struct Room {
     octets: usize,
-}
-
-impl Model for Room {
-    ghost use Rattle.std.specs.Prelude.{ℕ, ◌≤◌};
-
-    ghost Value = { ℕ };
-
-    ghost view = { λ r. r.octets };
-
-    ghost invariant = { λ r. r.octets ≤ 16 };
-
-    ghost inverse = { λ n. record { octets = n } };
+    ghost bound: { nat_le octets 16 ≡ true },
 }
 
 impl Room {
     pub fn new(octets: usize) -> Option<Room>
-        ensures { result ≡ (if nat_le octets 16 then Some octets else None) }
+        ensures { option_map (λ room. room.octets) result ≡ (if nat_le octets 16 then Some octets else None) }
     {
         if octets <= 16 {
             Some(Room { octets })
@@ -31,9 +19,12 @@ impl Room {
         }
     }
 
+    pub fn of(word: &str) -> Option<Room> {
+        Room::new(word.parse::<usize>().ok()?)
+    }
+
     pub fn get(self) -> usize
-        ensures value { result ≡ self }
-        ensures bound { result ≤ 16 }
+        ensures { result ≡ self.octets }
     {
         self.octets
     }

@@ -2,17 +2,23 @@
 ghost use Rattle.std.specs.Prelude.{◌≡◌};
 ghost use Rattle.sending.specs.Sending.{new_sender};
 
+use crate::answer::Answer;
 use crate::audio::Audio;
+use crate::call::Call;
+use crate::messages::{answer_due, answer_event};
 use kinds::cas::Cas;
 use kinds::digits::Digits;
+use profile::examples::Example;
+use profile::load::LoadError;
 use sending::sender::Sender;
+use std::alloc::Global;
 
 #[derive(Drop)]
 pub struct Streams {
-    pub digits: Sender<Digits>,
-    pub cas: Sender<Cas>,
+    digits: Sender<Digits>,
+    cas: Sender<Cas>,
     // there is none before a profile is chosen
-    pub audio: Option<Audio>,
+    audio: Option<Audio>,
 }
 
 impl Streams {
@@ -24,6 +30,40 @@ impl Streams {
             digits: Sender::<Digits>::new(),
             cas: Sender::<Cas>::new(),
             audio: None,
+        }
+    }
+
+    pub fn answer(&mut self, heap: Global, call: Call) -> anyhow::Result<Answer> {
+        match call {
+            Call::New => {
+                *self = Streams::new();
+                Ok(Answer::New)
+            }
+            Call::Profile(example) => self.load(heap, example),
+            Call::Audio {
+                time,
+                place,
+                length,
+            } => match &mut self.audio {
+                Some(audio) => Ok(audio.answer(time, place, length)),
+                None => Ok(Answer::BadLine),
+            },
+            Call::Digit(time, Ok(digit)) => Ok(answer_event(&mut self.digits, time, digit)),
+            Call::Digit(_, Err(refusal)) => Ok(Answer::Refused(refusal)),
+            Call::Cas(time, bits) => Ok(answer_event(&mut self.cas, time, bits)),
+            Call::DueDigit(time, room) => Ok(answer_due(heap, &mut self.digits, time, room)?),
+            Call::DueCas(time, room) => Ok(answer_due(heap, &mut self.cas, time, room)?),
+        }
+    }
+
+    fn load(&mut self, heap: Global, example: Example) -> anyhow::Result<Answer> {
+        match Audio::under(heap, example) {
+            Ok(audio) => {
+                self.audio = Some(audio);
+                Ok(Answer::Loaded)
+            }
+            Err(LoadError::Refused(refusal)) => Ok(Answer::Refused(refusal)),
+            Err(LoadError::Memory) => Err(LoadError::Memory.into()),
         }
     }
 }

@@ -1,5 +1,4 @@
 // What a case is answered, in one line.
-use arrayvec::ArrayVec;
 use examples::hex::Hex;
 use examples::refused::Refused;
 use examples::wide::Mark;
@@ -11,7 +10,7 @@ use type3::payload::Payload;
 
 #[derive(Drop)]
 pub enum Answer {
-    Octets(ArrayVec<u8, 12>),
+    Octets(Vec<u8>),
     Digit(Payload<Digit>),
     Cas(Payload<CasBits>),
     Wide(Payload<Mark>),

@@ -1,7 +1,7 @@
 // One case: a line of words, with one blank between two. The first says what is done.
 use crate::answer::Answer;
 use crate::reading::{read, read_wide};
-use crate::writing::{cas, digit, key, wide};
+use crate::writing::Asked;
 use examples::hex::octets_of;
 use kinds::export::gublaisma_read_type3;
 use std::alloc::Global;
@@ -12,9 +12,12 @@ pub fn answer_to(heap: Global, line: &str) -> anyhow::Result<Answer> {
         Some(("read", octets)) => answer_octets(heap, octets, read)?,
         Some(("readwide", octets)) => answer_octets(heap, octets, read_wide)?,
         Some(("export", octets)) => answer_octets(heap, octets, export)?,
-        Some((what, rest)) => {
+        Some((kind, rest)) => {
             let words: Vec<&str> = rest.split(' ').collect(heap)?;
-            answer_written(what, words.as_slice())
+            match Asked::of(kind, words.as_slice()) {
+                Some(asked) => Some(asked.answer(heap)?),
+                None => None,
+            }
         }
         None => None,
     };
@@ -36,14 +39,4 @@ fn answer_octets<F: FnOnce(&[u8]) -> Answer>(
 // What a C program is told.
 fn export(octets: &[u8]) -> Answer {
     Answer::Told(gublaisma_read_type3(octets))
-}
-
-fn answer_written(what: &str, words: &[&str]) -> Option<Answer> {
-    match what {
-        "cas" => cas(words),
-        "digit" => digit(words),
-        "key" => key(words),
-        "wide" => wide(words),
-        _ => None,
-    }
 }

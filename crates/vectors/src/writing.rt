@@ -1,82 +1,57 @@
-// The octets that are written for a case, from its words. `None` where a word is not what it is to be.
+// Payloads to be written, by their words.
 use crate::answer::Answer;
-use arrayvec::ArrayVec;
 use examples::bits::bits_of;
 use examples::wide::{Mark, Wide};
-use kinds::cas::Cas;
+use kinds::cas::{Cas, CasBits};
 use kinds::digit::Digit;
 use kinds::digits::Digits;
 use refusal::Refusal;
+use std::alloc::{AllocError, Global};
 use type3::bounded::{Redundancy, Stamp};
 use type3::kind::Kind;
 use type3::payload::Payload;
 use type3::writing::write_payload;
 
-pub fn cas(words: &[&str]) -> Option<Answer> {
-    let [redundancy, stamp, digits] = words else {
-        return None;
-    };
-    let bits = bits_of(digits.as_bytes())?;
-    Some(Head::of(redundancy, stamp)?.write::<Cas>(bits))
-}
-
-pub fn digit(words: &[&str]) -> Option<Answer> {
-    let [redundancy, stamp, system, code, dbm0] = words else {
-        return None;
-    };
-    let head = Head::of(redundancy, stamp)?;
-    let system = system.parse::<u8>().ok()?;
-    let code = code.parse::<u8>().ok()?;
-    let dbm0 = dbm0.parse::<i8>().ok()?;
-    Some(head.write_made(Digit::new(system, code, dbm0)))
-}
-
-// A key that is a blank comes as two empty words.
-pub fn key(words: &[&str]) -> Option<Answer> {
-    match words {
-        [redundancy, stamp, key, dbm0] => Head::of(redundancy, stamp)?.write_key(key, dbm0),
-        [redundancy, stamp, "", "", dbm0] => Head::of(redundancy, stamp)?.write_key(" ", dbm0),
-        _ => None,
-    }
-}
-
-pub fn wide(words: &[&str]) -> Option<Answer> {
-    let [redundancy, stamp, code] = words else {
-        return None;
-    };
-    let mark = Mark::try_from(code.parse::<u8>().ok()?).ok()?;
-    Some(Head::of(redundancy, stamp)?.write::<Wide>(mark))
-}
-
-// The two numbers at the head of a payload.
+// The two numbers at the head of a payload, and its message.
 #[derive(Clone, Copy)]
-struct Head {
+pub struct Asked {
     redundancy: Redundancy,
     stamp: Stamp,
+    message: Message,
 }
 
-impl Head {
-    fn of(redundancy: &str, stamp: &str) -> Option<Head> {
-        let redundancy = Redundancy::new(redundancy.parse::<u8>().ok()?)?;
-        let stamp = Stamp::new(stamp.parse::<u16>().ok()?)?;
-        Some(Head { redundancy, stamp })
+#[derive(Clone, Copy)]
+enum Message {
+    Cas(CasBits),
+    // a digit that was made, or the refusal to make it
+    Digit(Result<Digit, Refusal>),
+    Wide(Mark),
+}
+
+impl Asked {
+    // `None` where a word is not what it is to be.
+    pub fn of(kind: &str, words: &[&str]) -> Option<Asked> {
+        let [redundancy, stamp, words @ ..] = words else {
+            return None;
+        };
+        Some(Asked {
+            redundancy: Redundancy::new(redundancy.parse::<u8>().ok()?)?,
+            stamp: Stamp::new(stamp.parse::<u16>().ok()?)?,
+            message: Message::of(kind, words)?,
+        })
     }
 
-    fn write_key(&self, key: &str, dbm0: &str) -> Option<Answer> {
-        let key = key.parse::<char>().ok()?;
-        let dbm0 = dbm0.parse::<i8>().ok()?;
-        Some(self.write_made(Digit::of_key(key, dbm0)))
-    }
-
-    // A digit that was made, or the refusal to make it.
-    fn write_made(&self, made: Result<Digit, Refusal>) -> Answer {
-        match made {
-            Ok(digit) => self.write::<Digits>(digit),
-            Err(refusal) => Answer::Refused(refusal),
+    // The octets, or the refusal.
+    pub fn answer(&self, heap: Global) -> Result<Answer, AllocError> {
+        match self.message {
+            Message::Cas(bits) => self.write::<Cas>(heap, bits),
+            Message::Digit(Ok(digit)) => self.write::<Digits>(heap, digit),
+            Message::Digit(Err(refusal)) => Ok(Answer::Refused(refusal)),
+            Message::Wide(mark) => self.write::<Wide>(heap, mark),
         }
     }
 
-    fn write<K: Kind>(&self, message: K::Message) -> Answer {
+    fn write<K: Kind>(&self, heap: Global, message: K::Message) -> Result<Answer, AllocError> {
         let payload = Payload {
             redundancy: self.redundancy,
             stamp: self.stamp,
@@ -84,12 +59,36 @@ impl Head {
         };
         let mut octets = [0; 12];
         match write_payload::<K>(payload, &mut octets) {
-            Ok(count) => {
-                let mut written = ArrayVec::from(octets);
-                written.truncate(count);
-                Answer::Octets(written)
-            }
-            Err(refusal) => Answer::Refused(refusal),
+            Ok(count) => Ok(Answer::Octets(Vec::from_slice(heap, &octets[..count])?)),
+            Err(refusal) => Ok(Answer::Refused(refusal)),
         }
+    }
+}
+
+impl Message {
+    fn of(kind: &str, words: &[&str]) -> Option<Message> {
+        match (kind, words) {
+            ("cas", [digits]) => Some(Message::Cas(bits_of(digits.as_bytes())?)),
+            ("digit", [system, code, dbm0]) => {
+                let system = system.parse::<u8>().ok()?;
+                let code = code.parse::<u8>().ok()?;
+                let dbm0 = dbm0.parse::<i8>().ok()?;
+                Some(Message::Digit(Digit::new(system, code, dbm0)))
+            }
+            ("key", [key, dbm0]) => Message::of_key(key, dbm0),
+            // a blank comes as two empty words
+            ("key", ["", "", dbm0]) => Message::of_key(" ", dbm0),
+            ("wide", [code]) => {
+                let code = code.parse::<u8>().ok()?;
+                Some(Message::Wide(Mark::try_from(code).ok()?))
+            }
+            _ => None,
+        }
+    }
+
+    fn of_key(key: &str, dbm0: &str) -> Option<Message> {
+        let key = key.parse::<char>().ok()?;
+        let dbm0 = dbm0.parse::<i8>().ok()?;
+        Some(Message::Digit(Digit::of_key(key, dbm0)))
     }
 }
