@@ -8,3 +8,4 @@ pub mod refused;
 #[cfg(test)]
 mod tests;
 pub mod wide;
+pub mod written;

@@ -1,6 +1,7 @@
 // What a call is answered, in one line.
 use examples::hex::Hex;
 use examples::refused::Refused;
+use examples::written::Written;
 use refusal::Refusal;
 use std::fmt;
 
@@ -11,7 +12,7 @@ pub enum Answer {
     // the audio stream is new, under a profile
     Loaded,
     Accepted,
-    Octets(Vec<u8>),
+    Octets(Written<16>),
     Nothing,
     // an octet was changed that is none of a packet's
     Touched,

@@ -18,7 +18,7 @@ pub struct Audio {
 
 impl Audio {
     // A new stream under an example.
-    pub fn under(heap: Global, example: Example) -> Result<Audio, LoadError> {
+    pub fn new(heap: Global, example: Example) -> Result<Audio, LoadError> {
         Ok(Audio {
             profile: example.load(heap)?,
             sender: AudioSender::new(),

@@ -5,9 +5,9 @@ ghost use Rattle.timing.specs.Answers.{to_event, count};
 
 use crate::answer::Answer;
 use crate::room::Room;
+use examples::written::Written;
 use refusal::Refusal;
 use sending::sender::Sender;
-use std::alloc::{AllocError, Global};
 use type3::kind::Kind;
 
 // What stands in a buffer before a packet is written to it.
@@ -24,24 +24,19 @@ pub fn answer_event<K: Kind>(sender: &mut Sender<K>, time: u64, message: K::Mess
 }
 
 // What is due at a time, in a buffer of so many octets.
-pub fn answer_due<K: Kind>(
-    heap: Global,
-    sender: &mut Sender<K>,
-    time: u64,
-    room: Room,
-) -> Result<Answer, AllocError>
+pub fn answer_due<K: Kind>(sender: &mut Sender<K>, time: u64, room: Room) -> Answer
     ensures { sender.new ≡ (due K.Kind.model sender.old time room.octets).1 }
 {
     let mut octets = [UNWRITTEN; 16];
     let told = sender.due(time, &mut octets[..room.get()]);
-    let (written, rest) = octets.split_at(count_of(told));
-    if rest.iter().any(|octet| *octet != UNWRITTEN) {
-        return Ok(Answer::Touched);
+    let mut rest = octets.iter().skip(count_of(told));
+    if rest.any(|octet| *octet != UNWRITTEN) {
+        return Answer::Touched;
     }
     match told {
-        Ok(Some(_)) => Ok(Answer::Octets(Vec::from_slice(heap, written)?)),
-        Ok(None) => Ok(Answer::Nothing),
-        Err(refusal) => Ok(Answer::Refused(refusal)),
+        Ok(Some(count)) => Answer::Octets(Written::new(octets, count)),
+        Ok(None) => Answer::Nothing,
+        Err(refusal) => Answer::Refused(refusal),
     }
 }
 

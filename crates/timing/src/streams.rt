@@ -51,13 +51,13 @@ impl Streams {
             Call::Digit(time, Ok(digit)) => Ok(answer_event(&mut self.digits, time, digit)),
             Call::Digit(_, Err(refusal)) => Ok(Answer::Refused(refusal)),
             Call::Cas(time, bits) => Ok(answer_event(&mut self.cas, time, bits)),
-            Call::DueDigit(time, room) => Ok(answer_due(heap, &mut self.digits, time, room)?),
-            Call::DueCas(time, room) => Ok(answer_due(heap, &mut self.cas, time, room)?),
+            Call::DueDigit(time, room) => Ok(answer_due(&mut self.digits, time, room)),
+            Call::DueCas(time, room) => Ok(answer_due(&mut self.cas, time, room)),
         }
     }
 
     fn load(&mut self, heap: Global, example: Example) -> anyhow::Result<Answer> {
-        match Audio::under(heap, example) {
+        match Audio::new(heap, example) {
             Ok(audio) => {
                 self.audio = Some(audio);
                 Ok(Answer::Loaded)

@@ -2,6 +2,7 @@
 use examples::hex::Hex;
 use examples::refused::Refused;
 use examples::wide::Mark;
+use examples::written::Written;
 use kinds::cas::CasBits;
 use kinds::digit::Digit;
 use refusal::Refusal;
@@ -10,7 +11,7 @@ use type3::payload::Payload;
 
 #[derive(Drop)]
 pub enum Answer {
-    Octets(Vec<u8>),
+    Octets(Written<12>),
     Digit(Payload<Digit>),
     Cas(Payload<CasBits>),
     Wide(Payload<Mark>),

@@ -4,20 +4,17 @@ use crate::reading::{read, read_wide};
 use crate::writing::Asked;
 use examples::hex::octets_of;
 use kinds::export::gublaisma_read_type3;
-use std::alloc::Global;
+use std::alloc::{AllocError, Global};
 
 // A line that is no case, or has a number out of its range, is a bad one.
-pub fn answer_to(heap: Global, line: &str) -> anyhow::Result<Answer> {
+pub fn answer_to(heap: Global, line: &str) -> Result<Answer, AllocError> {
     let answer = match line.split_once(' ') {
         Some(("read", octets)) => answer_octets(heap, octets, read)?,
         Some(("readwide", octets)) => answer_octets(heap, octets, read_wide)?,
         Some(("export", octets)) => answer_octets(heap, octets, export)?,
         Some((kind, rest)) => {
             let words: Vec<&str> = rest.split(' ').collect(heap)?;
-            match Asked::of(kind, words.as_slice()) {
-                Some(asked) => Some(asked.answer(heap)?),
-                None => None,
-            }
+            Asked::of(kind, words.as_slice()).map(|asked| asked.answer())
         }
         None => None,
     };
@@ -29,7 +26,7 @@ fn answer_octets<F: FnOnce(&[u8]) -> Answer>(
     heap: Global,
     text: &str,
     answer: F,
-) -> anyhow::Result<Option<Answer>>
+) -> Result<Option<Answer>, AllocError>
     requires { F.IsAlwaysCallable answer }
 {
     let octets = octets_of(heap, text)?;

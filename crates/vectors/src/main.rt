@@ -11,5 +11,5 @@ mod reading;
 mod writing;
 
 fn main(rt: HostRuntime) -> anyhow::Result<()> {
-    answer_lines(&rt, |heap, line| answer_to(heap, line))
+    answer_lines(&rt, |heap, line| Ok(answer_to(heap, line)?))
 }

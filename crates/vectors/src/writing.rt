@@ -2,11 +2,11 @@
 use crate::answer::Answer;
 use examples::bits::bits_of;
 use examples::wide::{Mark, Wide};
+use examples::written::Written;
 use kinds::cas::{Cas, CasBits};
 use kinds::digit::Digit;
 use kinds::digits::Digits;
 use refusal::Refusal;
-use std::alloc::{AllocError, Global};
 use type3::bounded::{Redundancy, Stamp};
 use type3::kind::Kind;
 use type3::payload::Payload;
@@ -42,16 +42,16 @@ impl Asked {
     }
 
     // The octets, or the refusal.
-    pub fn answer(&self, heap: Global) -> Result<Answer, AllocError> {
+    pub fn answer(&self) -> Answer {
         match self.message {
-            Message::Cas(bits) => self.write::<Cas>(heap, bits),
-            Message::Digit(Ok(digit)) => self.write::<Digits>(heap, digit),
-            Message::Digit(Err(refusal)) => Ok(Answer::Refused(refusal)),
-            Message::Wide(mark) => self.write::<Wide>(heap, mark),
+            Message::Cas(bits) => self.write::<Cas>(bits),
+            Message::Digit(Ok(digit)) => self.write::<Digits>(digit),
+            Message::Digit(Err(refusal)) => Answer::Refused(refusal),
+            Message::Wide(mark) => self.write::<Wide>(mark),
         }
     }
 
-    fn write<K: Kind>(&self, heap: Global, message: K::Message) -> Result<Answer, AllocError> {
+    fn write<K: Kind>(&self, message: K::Message) -> Answer {
         let payload = Payload {
             redundancy: self.redundancy,
             stamp: self.stamp,
@@ -59,8 +59,8 @@ impl Asked {
         };
         let mut octets = [0; 12];
         match write_payload::<K>(payload, &mut octets) {
-            Ok(count) => Ok(Answer::Octets(Vec::from_slice(heap, &octets[..count])?)),
-            Err(refusal) => Ok(Answer::Refused(refusal)),
+            Ok(count) => Answer::Octets(Written::new(octets, count)),
+            Err(refusal) => Answer::Refused(refusal),
         }
     }
 }
