@@ -15,7 +15,7 @@ fn bit_of(digit: u8) -> Option<bool>
     }
 }
 
-// Signalling bits by four digits, A first.
+// Signalling bits by four digits, A first. (No `FromStr`: the type is of another crate.)
 pub fn bits_of(digits: &[u8]) -> Option<CasBits>
     ensures { result ≡ bits_of digits.now }
 {

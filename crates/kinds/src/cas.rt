@@ -17,7 +17,7 @@ pub struct CasBits {
 }
 
 impl CasBits {
-    // A × 8 + B × 4 + C × 2 + D.
+    // A × 8 + B × 4 + C × 2 + D. (It has a name, and is no `From`, since it is one reading of four bits.)
     pub fn octet(self) -> u8
         ensures { result ≡ octet self }
     {

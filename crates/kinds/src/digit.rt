@@ -40,7 +40,7 @@ impl Digit {
     }
 }
 
-// Whether the digit type of this number has the code.
+// Whether the digit type of this number has the code. A number that is no type has none.
 pub fn has_code(system: u8, code: u8) -> bool
     ensures { result ≡ is_code system code }
 {

@@ -4,7 +4,7 @@
 pub struct Entry {
     // how rate control names the entry, if it does; it is never checked
     pub index: Option<u8>,
-    // which encoding the packets have
+    // which encoding the packets have; any number is taken, since it is never checked
     pub format: u8,
     pub first: u16,
     pub last: u16,

@@ -37,7 +37,8 @@ pub enum Format {
     Sid = 9,
 }
 
-// An entry by its index, format, UUIs, length and packet time. Its interval is 5 ms.
+// An entry by its index, format, UUIs, length and packet time. Its interval is 5 ms. (A macro, since a constant calls no
+// function.)
 macro_rules! entry {
     ($index:expr, $format:ident, $first:literal..=$last:literal, $length:literal, $packet_time:literal) => {
         Entry {

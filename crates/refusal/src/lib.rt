@@ -80,7 +80,7 @@ pub enum KindFault {
     DigitType,
     // the code is not of its digit type
     DigitCode,
-    // the octets are no message's body: the kind's cause
+    // the octets are no message's body: the kind's cause, a number since anyone may add a kind
     Body(u8),
 }
 
@@ -104,7 +104,7 @@ pub enum Layer {
     Placing,
 }
 
-// A refusal. Of a profile it also has the place of the entry that is wrong, from 0.
+// A refusal. Of a profile it also has the place of the entry that is wrong, from 0, so that no fault alone makes it.
 #[derive(Clone, Copy, Debug, PartialEq, Eq)]
 pub enum Refusal {
     Profile(ProfileFault, usize),
@@ -195,6 +195,7 @@ impl fmt::Display for Refusal {
 
 impl Error for Refusal {}
 
+// Each layer's fault is a refusal. (By hand, since a derived conversion has no contract.)
 impl From<SendingFault> for Refusal {
     ghost from_gives = { λ fault refusal. refusal ≡ Sending fault };
 

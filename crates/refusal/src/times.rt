@@ -14,7 +14,7 @@ pub fn is_time(ms: u64) -> bool
     ms <= LAST_TIME
 }
 
-// A number of milliseconds that is a time. In contracts it is that number.
+// A number of milliseconds that is a time. In contracts it is that number. It is made and read as std's `NonZeroU64` is.
 #[derive(Clone, Copy, Debug, PartialEq, Eq, PartialOrd, Ord)]
 pub struct Time {
     ms: u64,

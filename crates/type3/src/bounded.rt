@@ -1,4 +1,6 @@
 // The two numbers at the head of a type 3 payload, each with its bound in its type. In contracts each is that number.
+// They are two types, and not one with a const parameter, since they hold numbers of different types and have methods of their
+// own. They are made and read by `new` and `get`, as std's `NonZeroU8` is.
 ghost use Rattle.std.specs.Prelude.{◌≡◌, ◌+◌, ◌*◌, ◌/◌, ◌%◌, ◌<◌, min, ltb, if◌then◌else◌, Some, None};
 
 use std::marker::Model;

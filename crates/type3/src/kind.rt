@@ -18,7 +18,7 @@ pub trait Kind {
     fn body_len() -> usize
         ensures { result ≡ model.len };
 
-    // Writes the body of a message, which fills `out`.
+    // Writes the body of a message, which fills `out`. (A slice, since a kind's length cannot be an array's.)
     fn write_body(message: Self::Message, out: &mut [u8])
         requires { length out.old ≡ model.len }
         ensures { out.new ≡ model.body message };

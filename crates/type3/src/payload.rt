@@ -8,6 +8,7 @@ pub struct Payload<T> {
     pub message: T,
 }
 
+// One of two in order: of two kinds with one message type the first is chosen.
 #[derive(Clone, Copy, Debug, PartialEq, Eq)]
 pub enum Either<X, Y> {
     First(X),

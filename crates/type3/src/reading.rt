@@ -20,6 +20,7 @@ pub fn read_payload<K: Kind>(octets: &[u8]) -> Result<Payload<K::Message>, Refus
     read_one::<K>(octets)
 }
 
+// Apart, so that the function above has one exit: each would owe all that is said of the result.
 fn read_one<K: Kind>(octets: &[u8]) -> Result<Payload<K::Message>, Refusal>
     ensures { result ≡ read K.Kind.model octets.now }
 {
@@ -69,6 +70,7 @@ pub fn read_either<P: Kind, Q: Kind>(
     read_two::<P, Q>(octets)
 }
 
+// Apart, as `read_one` is.
 fn read_two<P: Kind, Q: Kind>(
     octets: &[u8],
 ) -> Result<Either<Payload<P::Message>, Payload<Q::Message>>, Refusal>

@@ -8,7 +8,8 @@ use crate::payload::Payload;
 use crc10::crc_of;
 use refusal::{Refusal, SendingFault};
 
-// Writes the payload at the start of `out`, and answers how long it is.
+// Writes the payload at the start of `out`, and answers how long it is. (The caller lends the buffer: nothing in service
+// allocates.)
 pub fn write_payload<K: Kind>(
     payload: Payload<K::Message>,
     out: &mut [u8],

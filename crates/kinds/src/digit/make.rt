@@ -8,7 +8,8 @@ use crate::system::System;
 use refusal::{KindFault, Refusal};
 
 impl Digit {
-    // The digit of a digit type and a code, at a level in whole dBm0.
+    // The digit of a digit type and a code, at a level in whole dBm0. The type is given by its number, and a number that is none
+    // is refused.
     pub fn new(system: u8, code: u8, dbm0: i8) -> Result<Digit, Refusal>
         ensures { result ≡ make system code dbm0 }
     {
