@@ -26,7 +26,7 @@ impl CasBits {
 }
 
 // Why an octet has no signalling bits: one of its upper four is set.
-#[derive(Clone, Copy, Debug, PartialEq, Eq)]
+#[derive(Clone, Copy, Debug)]
 pub struct NoBits;
 
 impl From<NoBits> for Refusal {
