@@ -1,5 +1,5 @@
 -- What is known of an audio packet, and that its UUI and length tell its entry and its time. Assumes nothing.
-use Rattle.std.proofs.Common.{◌≡◌, ℕ, ◌+◌, ◌*◌, ◌%◌, ◌≤◌, Bool, false, List, [], ◌∷◌, length, is_some, Some, None, Ok, Err, Option, Result, sym, refl, ap, ◌∙◌, subst, arith}
+use Rattle.std.proofs.Common.{◌≡◌, ℕ, ◌+◌, ◌%◌, ◌≤◌, Bool, false, List, [], ◌∷◌, length, is_some, Some, None, Ok, Err, Option, Result, sym, refl, ap, ◌∙◌, arith}
 use Rattle.std.proofs.lemmas.Bool.{leb-true, eqb-true, le-leb, eq-eqb, and_from}
 use Rattle.std.specs.List.{slice_get}
 use Rattle.std.specs.Option.{option_map}
@@ -7,7 +7,7 @@ use Rattle.refusal.specs.Questions.{first_no, unless, is_time, from_to}
 use Rattle.refusal.specs.declared.Refusal.{Refusal}
 use Rattle.refusal.specs.declared.Refusal.TheVariants.{Sending}
 use Rattle.refusal.specs.declared.SendingFault.TheVariants.{TimeOutOfRange}
-use Rattle.refusal.proofs.Asked.{Yes, accepted}
+use Rattle.refusal.proofs.Asked.{Yes, refused, passed, asked_way}
 use Rattle.profile.specs.declared.entry.Entry.{Entry}
 use Rattle.profile.specs.Questions.{width, refusal}
 use Rattle.profile.specs.Labels.{find, label, interval_of, span_of}
@@ -19,18 +19,13 @@ use Rattle.sending.specs.Audio.{audio_questions, audio_under, audio}
 use Rattle.placing.specs.Arrivals.{Point, Tells}
 use Rattle.placing.proofs.Telling.{labels_tell}
 use Rattle.network.specs.Packets.{entry, Packet}
-use Rattle.network.proofs.Sameness.{none_some}
 
-ok_err : {X Y : Type 0} (f : Refusal) (x : X) → ◌≡◌ {A = Result X Refusal} (Err f) (Ok x) → Y
-ok_err f x e = let z : ◌≡◌ {A = ℕ} 0 1 = cc in absurd (let k : ⊥ = omega arith in k)
-
--- what was not refused passed every question
-all_yes : (qs : List (Bool × Refusal)) → first_no qs ≡ None → Yes qs
-all_yes qs e = (accepted (λ f. Some f) None qs None (λ f d. none_some f (sym d)) e).0
-
-unless_ok : {S X : Type 0} (o : Option Refusal) (s : S) (does : Result X Refusal × S) (x : X) → (unless o s does).0 ≡ Ok x → (o ≡ None) × (does.0 ≡ Ok x)
-unless_ok None s does x e = (refl, e)
-unless_ok (Some f) s does x e = ok_err f x e
+-- what was not refused passed every question, and is answered by what the call does
+all_yes : {S X : Type 0} (qs : List (Bool × Refusal)) (s : S) (does : Result X Refusal × S) (x : X) → (unless (first_no qs) s does).0 ≡ Ok x → Yes qs × (does.0 ≡ Ok x)
+all_yes {S} {X} qs s does x e = elim (asked_way (λ f. Some f) None qs) [
+  | refused f is ↦ absurd (let g : ◌≡◌ {A = Result X Refusal} (Err f) (Ok x) = rw is at e in let z : ⊥ = cc in z)
+  | passed y is ↦ (y, (rw is at e))
+]
 
 module _ {P Q : Type 0} (es : List Entry) where
   pub record AudioMade (x : Packet P Q) : Type 0 where
@@ -47,26 +42,22 @@ module _ {P Q : Type 0} (es : List Entry) where
   pub audio_made : (free t place u : ℕ) (o : List ℕ) → (audio es free t place (length o)).0 ≡ Ok u
       → AudioMade (record { time = t; content = entry place; uui = u; octets = o })
   audio_made free t place u o e =
-      let a = unless_ok (first_no ((is_time t, Sending TimeOutOfRange) ∷ [])) free (audio_under free t (length o) (slice_get es place)) u e in
-      by (leb-true t 1099511627775 (all_yes ((is_time t, Sending TimeOutOfRange) ∷ []) a.0).0) (slice_get es place) refl a.1
+      let a = all_yes ((is_time t, Sending TimeOutOfRange) ∷ []) free (audio_under free t (length o) (slice_get es place)) u e in
+      by (leb-true t 1099511627775 a.0.0) (slice_get es place) refl a.1
     where
-      label_is : (x : Entry) → ◌≡◌ {A = Result ℕ Refusal} (Ok (label x t)) (Ok u) → u ≡ label x t
-      label_is x e = cc
-
       by : t ≤ 1099511627775 → (p : Option Entry) → slice_get es place ≡ p → (audio_under free t (length o) p).0 ≡ Ok u
           → AudioMade (record { time = t; content = entry place; uui = u; octets = o })
-      by in_time None is e = ok_err _ u e
+      by in_time None is e = absurd (cc)
       by in_time (Some x) is e =
-          let b = unless_ok (first_no (audio_questions free t (length o) x)) free (Ok (label x t), t + x.packet_time) u e in
-          let yes = all_yes (audio_questions free t (length o) x) b.0 in
+          let b = all_yes (audio_questions free t (length o) x) free (Ok (label x t), t + x.packet_time) u e in
           record {
             place = place;
             of = x;
             content = refl;
             at = is;
-            uui = label_is x b.1;
-            long = eqb-true (length o) x.length yes.0;
-            whole = eqb-true (t % x.interval) 0 yes.1.0;
+            uui = cc;
+            long = eqb-true (length o) x.length b.0.0;
+            whole = eqb-true (t % x.interval) 0 b.0.1.0;
             in_time = in_time;
           }
 
@@ -93,5 +84,4 @@ module _ {P Q : Type 0} (es : List Entry) where
         let p : Point = record { label = x.uui; arrival = arrival; time = x.time } in
         let e = a.of in
         let t = labels_tell (width e) e.interval e.first p (numbers_at es loads a.place e a.at).multiple a.whole a.uui in
-        subst (λ s. Tells s (interval_of es) p) (sym (one_span es loads a.place e a.at))
-        (subst (λ i. Tells (width e * e.interval) i p) (one_interval es loads a.place e a.at) t)
+        rw (one_span es loads a.place e a.at, ← one_interval es loads a.place e a.at) t

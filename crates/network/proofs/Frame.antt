@@ -1,5 +1,5 @@
 -- The law follows from what is kept from call to call. Assumes nothing.
-use Rattle.std.proofs.Common.{◌≡◌, true, List, [], ◌∷◌, ◌++◌, is_some, Some, sym, ap, ◌∙◌, subst, append_assoc, append-nil}
+use Rattle.std.proofs.Common.{◌≡◌, true, List, [], ◌∷◌, ◌++◌, is_some, Some, append_assoc, append-nil}
 use Rattle.std.proofs.lemmas.Bool.{and_parts}
 use Rattle.type3.specs.Kinds.{Meaning}
 use Rattle.profile.specs.declared.entry.Entry.{Entry}
@@ -42,18 +42,18 @@ module _ {P Q : Type 0} where
     rest : (xs : List (Turn P Q)) (h : List (Moment P Q)) (w : Ends P Q) → Held h w
         → everywhere (λ before m. test_of (carried before) (arrival m)) h (history p q w xs) ≡ true
         → everywhere (λ before m. test_of (aged es before) (arrival m)) h (history p q w xs) ≡ true → Rest h w xs
-    rest [] h w held c a = record { exactly = tt; origin = tt; held = subst (λ l. Held l w) (sym (append-nil h)) held }
+    rest [] h w held c a = record { exactly = tt; origin = tt; held = rw (append-nil h) held }
     rest (x ∷ xs) h w held c a =
         let m = moment p q w x in
         let c2 = and_parts (test_of (carried h) (arrival m)) _ c in
         let a2 = and_parts (test_of (aged es h) (arrival m)) _ a in
         let more = rest xs (h ++ (m ∷ [])) (taken p q w x) (k.next h w x held c2.0 a2.0) c2.1 a2.1 in
         let here : (y : Arrival P Q) → arrival m ≡ Some y → Right h y =
-        λ y e. k.right h w x held y e (sym (ap (test_of (carried h)) e) ∙ c2.0) (sym (ap (test_of (aged es h)) e) ∙ a2.0) in
+        λ y e. k.right h w x held y e (rw e at c2.0) (rw e at a2.0) in
         record {
           exactly = (λ y e. (here y e).exactly, more.exactly);
           origin = (λ y e. (here y e).origin, more.origin);
-          held = subst (λ l. Held l (after p q (taken p q w x) xs)) (append_assoc h (m ∷ []) (history p q (taken p q w x) xs)) more.held;
+          held = rw (← append_assoc h (m ∷ []) (history p q (taken p q w x) xs)) more.held;
         }
 
     pub told_rightly : (calls : List (Turn P Q)) → each_arrival carried (history p q (both es) calls) ≡ true

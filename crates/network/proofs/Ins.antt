@@ -1,7 +1,9 @@
 -- What a list of calls tells of a stream that is received, and what one more sound arrival is there. Assumes nothing.
-use Rattle.std.proofs.Common.{◌≡◌, ℕ, ◌*◌, ◌≤◌, Bool, true, false, cond, ◌&&◌, ltb, leb, List, [], ◌∷◌, ◌++◌, ◌-ℤ◌, nat_abs, is_some, Some, None, Ok, Err, Option, Result, sym, refl, ap, ◌∙◌, subst}
+use Rattle.std.proofs.Common.{◌≡◌, ℕ, ◌≤◌, Bool, true, false, cond, ◌&&◌, leb, List, [], ◌∷◌, ◌++◌, is_some, Some, None, Ok, Err, Option, Result, sym, refl, ap, ◌∙◌, subst, arith}
+use Rattle.std.proofs.lemmas.Grind.{common_steps}
 use Rattle.std.proofs.lemmas.Bool.{leb-true, ltb-true, and_parts}
 use Rattle.std.specs.Option.{option_map, option_flatten}
+use Rattle.std.proofs.lemmas.Option.{none-some, same_Some}
 use Rattle.refusal.specs.declared.Refusal.{Refusal}
 use Rattle.profile.specs.declared.entry.Entry.{Entry}
 use Rattle.placing.specs.declared.stream.Placed.{Placed}
@@ -17,21 +19,15 @@ use Rattle.network.specs.declared.side.Side.{Side}
 use Rattle.network.specs.Names.{other, same_side, Stream, same_stream}
 use Rattle.network.specs.Runs.{arrive, Moment}
 use Rattle.network.specs.Packets.{Content, Packet, Named, Arrival, stream_of, packet_from, named, arrival, arrivals}
-use Rattle.network.specs.Law.{Sound, sound, sounds, earlier, age, span, near_age, aged_if, aged, latest_news, later_than_all, Since, Origin}
-use Rattle.network.proofs.Sameness.{none_some, some_is, itself, stream_itself}
+use Rattle.network.specs.Law.{Sound, sound, sounds, intact, span, aged, latest_news, Since, Origin}
+use Rattle.network.proofs.Sameness.{itself, stream_itself}
 use Rattle.network.proofs.Frame.{Right}
-use Rattle.network.proofs.Longer.{packet_stays, arrivals_snoc, sound_now, on_it, sounds_apart, sounds_more}
+use Rattle.network.proofs.Longer.{packet_stays, arrivals_snoc, sound_now, on_it, sounds_stay, sounds_more}
 
--- what all pass, a part at the front or at the back passes
-pub all_front : {X : Type 0} (test : X → Bool) (xs ys : List X) → all test (xs ++ ys) ≡ true → all test xs ≡ true
-all_front test [] ys h = refl
-all_front test (x ∷ xs) ys h =
-    let e = and_parts (test x) (all test (xs ++ ys)) h in
-    ap (λ b. b && all test xs) e.0 ∙ all_front test xs ys e.1
-
-all_back : {X : Type 0} (test : X → Bool) (xs ys : List X) → all test (xs ++ ys) ≡ true → all test ys ≡ true
-all_back test [] ys h = h
-all_back test (x ∷ xs) ys h = all_back test xs ys (and_parts (test x) (all test (xs ++ ys)) h).1
+-- all of two lists pass a test where all of each do
+all_append : {X : Type 0} (test : X → Bool) (xs ys : List X) → all test (xs ++ ys) ≡ all test xs && all test ys
+all_append test [] ys = refl
+all_append test (x ∷ xs) ys = grind (arith, common_steps, all_append test xs ys)
 
 module _ {P Q : Type 0} where
   abbrev pub made_for : Sound P Q → ℕ
@@ -47,32 +43,28 @@ module _ {P Q : Type 0} where
   abbrev pub Come : Side → List (Moment P Q) → ℕ → Type 0
   Come a h t = all (λ x. leb x.time t) (arrivals a h) ≡ true
 
+  -- a time by which all came: it is one before the last call too, and of the arrival that this brought
+  come_parts : (h : List (Moment P Q)) (m : Moment P Q) (a : Side) (t : ℕ) → Come a (h ++ (m ∷ [])) t
+      → Come a h t × (all (λ x. leb x.time t) (those (λ x. same_side a x.side) (add (arrival m) [])) ≡ true)
+  come_parts h m a t e = and_parts (all (λ x. leb x.time t) (arrivals a h)) _ (rw (arrivals_snoc h m a, all_append) at e)
+
   pub come_before : (h : List (Moment P Q)) (m : Moment P Q) (a : Side) (t : ℕ) → Come a (h ++ (m ∷ [])) t → Come a h t
-  come_before h m a t e =
-      all_front (λ x. leb x.time t) (arrivals a h) (those (λ x. same_side a x.side) (add (arrival m) []))
-      (sym (ap (all (λ x. leb x.time t)) (arrivals_snoc h m a)) ∙ e)
+  come_before h m a t e = (come_parts h m a t e).0
 
   -- the last to arrive came by then too
   pub come_now : (h : List (Moment P Q)) (m : Moment P Q) (x : Arrival P Q) → arrival m ≡ Some x → (t : ℕ) → Come x.side (h ++ (m ∷ [])) t → x.time ≤ t
   come_now h m x arrives t e =
-      leb-true x.time t (and_parts (leb x.time t) true
-      (sym (ap (λ b. all (λ (y : Arrival P Q). leb y.time t) (cond b (x ∷ []) [])) (itself x.side))
-      ∙ sym (ap (λ o. all (λ (y : Arrival P Q). leb y.time t) (those (λ y. same_side x.side y.side) (add o []))) arrives)
-      ∙ all_back (λ y. leb y.time t) (arrivals x.side h) (those (λ y. same_side x.side y.side) (add (arrival m) []))
-      (sym (ap (all (λ y. leb y.time t)) (arrivals_snoc h m x.side)) ∙ e))).0
+      let last = (come_parts h m x.side t e).1 in
+      leb-true x.time t (and_parts (leb x.time t) true (rw (itself x.side) at (rw arrives at last))).0
 
   -- a sound arrival copies a packet of the other side, and came in its order
   pub record Traced (h : List (Moment P Q)) (a : Side) (y : Sound P Q) : Type 0 where
-    pub from : ℕ
-    pub made : packet_from (other a) h (Some from) ≡ Some y.packet
+    pub from : Option ℕ
+    pub made : packet_from (other a) h from ≡ Some y.packet
     pub order : (t : ℕ) → Come a h t → y.arrival.time ≤ t
 
-  traced_stays : (h : List (Moment P Q)) (m : Moment P Q) (a : Side) (y : Sound P Q) → Traced h a y → Traced (h ++ (m ∷ [])) a y
-  traced_stays h m a y r = record {
-    from = r.from;
-    made = packet_stays h m (other a) r.from y.packet r.made;
-    order = λ t e. r.order t (come_before h m a t e);
-  }
+  traced_stays : {h : List (Moment P Q)} (m : Moment P Q) {a : Side} {y : Sound P Q} → Traced h a y → Traced (h ++ (m ∷ [])) a y
+  traced_stays {h} m {a} {y} r = record { from = r.from; made = packet_stays h m (other a) r.from y.packet r.made; order = λ t e. r.order t (come_before h m a t e) }
 
   -- a stream that is received holds the sound arrival made for the latest time
   pub record On (label : Packet P Q → ℕ) (turn unit : ℕ) (h : List (Moment P Q)) (a : Side) (stream : Stream) (placed : Option Placed) : Type 0 where
@@ -80,14 +72,11 @@ module _ {P Q : Type 0} where
     pub traced : (y : Sound P Q) → greatest made_for (sounds a stream h) ≡ Some y → Traced h a y
 
   pub new_on : (label : Packet P Q → ℕ) (turn unit : ℕ) (a : Side) (stream : Stream) → On label turn unit [] a stream None
-  new_on label turn unit a stream = record { heard = refl; traced = λ y e. none_some y e }
+  new_on label turn unit a stream = record { heard = refl; traced = λ y e. absurd (none-some y e) }
 
-  pub on_stays : (label : Packet P Q → ℕ) (turn unit : ℕ) (h : List (Moment P Q)) (m : Moment P Q) (a : Side) (stream : Stream) (placed : Option Placed)
+  pub on_stays : {label : Packet P Q → ℕ} {turn unit : ℕ} {h : List (Moment P Q)} (m : Moment P Q) {a : Side} {stream : Stream} {placed : Option Placed}
       → sounds a stream (h ++ (m ∷ [])) ≡ sounds a stream h → On label turn unit h a stream placed → On label turn unit (h ++ (m ∷ [])) a stream placed
-  on_stays label turn unit h m a stream placed e r = record {
-    heard = subst (λ ss. Hears (point label) is_told turn unit ss placed) (sym e) r.heard;
-    traced = λ y f. traced_stays h m a y (r.traced y (sym (ap (greatest made_for) e) ∙ f));
-  }
+  on_stays m e r = record { heard = rw e r.heard; traced = λ y f. traced_stays m (r.traced y (rw e at f)) }
 
   -- ---- answers
 
@@ -104,10 +93,7 @@ module _ {P Q : Type 0} where
   naming c (Err f) = None
 
   some_naming : (c : Content P Q) (r : Result (Told Moved) Refusal) → is_some (naming c r) ≡ is_news r
-  some_naming c (Ok (News n)) = refl
-  some_naming c (Ok Repeat) = refl
-  some_naming c (Ok Late) = refl
-  some_naming c (Err f) = refl
+  some_naming c r = grind (arith, common_steps)
 
   -- ---- an arrival at a side
 
@@ -124,39 +110,45 @@ module _ {P Q : Type 0} where
 
   -- ---- one sound arrival
 
-  module _ (label : Packet P Q → ℕ) (turn unit : ℕ) (es : List Entry) (h : List (Moment P Q)) (a : Side) (stream : Stream) (placed : Option Placed)
-      (on : On label turn unit h a stream placed) (t uui : ℕ) (o : List ℕ) (i : ℕ) (pk : Packet P Q) where
-    abbrev pub copying : Option (Named P Q) → Sound P Q
-    copying n = record { arrival = arriving a t uui o (Some i) n; packet = pk }
+  -- The call m brings the sound arrival z on a stream: what is told of it is right, it leaves the other streams, and on its own it is
+  -- the one made for the latest time where it is news.
+  pub record OneMore (label : Packet P Q → ℕ) (turn unit : ℕ) (h : List (Moment P Q)) (a : Side) (stream : Stream) (placed : Option Placed) (news : Bool) (m : Moment P Q)
+      (z : Sound P Q) : Type 0 where
+    pub right : Right h z.arrival
+    pub apart : (n : Stream) → same_stream stream n ≡ false → sounds a n (h ++ (m ∷ [])) ≡ sounds a n h
+    pub leads : greatest made_for (sounds a stream (h ++ (m ∷ []))) ≡ cond news (Some z) (greatest made_for (sounds a stream h))
+    pub on_after : On label turn unit (h ++ (m ∷ [])) a stream placed
 
-    module _ (is_sound : (n : Option (Named P Q)) → sound h (arriving a t uui o (Some i) n) ≡ Some (copying n)) (stream_is : stream_of pk.content ≡ stream)
-        (made : packet_from (other a) h (Some i) ≡ Some pk) (in_time : pk.time ≤ 1099511627775) (tells : Tells turn unit (point label (copying None)))
-        (span_is : span es pk.content ≡ turn) (in_order : Come a h t) (ages : aged es h (arriving a t uui o (Some i) None) ≡ true) where
-      earlier_is : (n : Option (Named P Q)) → earlier h (copying n) ≡ sounds a stream h
-      earlier_is n = ap (λ s. sounds a s h) stream_is
+  module _ {label : Packet P Q → ℕ} {turn unit : ℕ} {h : List (Moment P Q)} {a : Side} {stream : Stream} {placed : Option Placed}
+      (on : On label turn unit h a stream placed) (es : List Entry) (t uui : ℕ) (o : List ℕ) (i : Option ℕ) (pk : Packet P Q) where
+    abbrev pub copying : Option (Named P Q) → Sound P Q
+    copying n = record { arrival = arriving a t uui o i n; packet = pk }
+
+    module _ (made : packet_from (other a) h i ≡ Some pk) (whole : intact pk (arriving a t uui o i None) ≡ true) (stream_is : stream_of pk.content ≡ stream)
+        (in_time : pk.time ≤ 1099511627775) (tells : Tells turn unit (point label (copying None))) (span_is : span es pk.content ≡ turn) (in_order : Come a h t)
+        (n : Option (Named P Q)) (ages : aged es h (arriving a t uui o i n) ≡ true) where
+      is_sound : (n : Option (Named P Q)) → sound h (arriving a t uui o i n) ≡ Some (copying n)
+      is_sound n = rw (made, whole) refl
 
       near : (y : Sound P Q) → greatest made_for (sounds a stream h) ≡ Some y → Near (point label) is_told turn unit y (point label (copying None))
       near y leads = record {
         order = (on.traced y leads).order t in_order;
-        ages = ltb-true _ turn (sym (ap (aged_if es h) (is_sound None)
-            ∙ ap (λ ss. near_age es (copying None) (greatest made_for ss)) (earlier_is None)
-            ∙ ap (near_age es (copying None)) leads
-            ∙ ap (ltb (2 * nat_abs (age (copying None) -ℤ age y))) span_is) ∙ ages);
+        ages = ltb-true _ turn (rw (is_sound n, stream_is, leads, span_is) at ages);
       }
 
       abbrev pub answer : Result (Told Moved) Refusal
       answer = told turn unit placed (label pk) t
 
-      pub heard_next : Next (point label) is_told turn unit (sounds a stream h) placed (point label (copying None)) answer
+      heard_next : Next (point label) is_told turn unit (sounds a stream h) placed (point label (copying None)) answer
       heard_next = next (point label) is_told turn unit (sounds a stream h) placed (point label (copying None)) on.heard tells in_time near
 
-      since_of : (s : Sound P Q) → s.packet ≡ pk → (x : Option (Sound P Q)) (n : ℕ) → Passed (point label) is_told turn unit x (point label (copying None)) n → Since x s n
-      since_of s e None n p = p
-      since_of s e (Some y) n p = p ∙ sym (ap (λ (k : Packet P Q). k.time) e)
+      since_of : (x : Option (Sound P Q)) (c : Option (Named P Q)) (n : ℕ) → Passed (point label) is_told turn unit x (point label (copying None)) n → Since x (copying c) n
+      since_of None c n p = p
+      since_of (Some y) c n p = p
 
       module _ (r : Result (Arrived P Q) Refusal) (names : news_of r ≡ naming pk.content answer) where
         abbrev pub m : Moment P Q
-        m = arrive_moment a t uui o (Some i) r
+        m = arrive_moment a t uui o i r
 
         abbrev pub z : Sound P Q
         z = copying (news_of r)
@@ -165,57 +157,44 @@ module _ {P Q : Type 0} where
         flag = ap is_some names ∙ some_naming pk.content answer
 
         is_now : sound_now h m ≡ Some z
-        is_now = ap (λ x. option_flatten (option_map (sound h) x)) (arrives a t uui o (Some i) r) ∙ is_sound (news_of r)
+        is_now = ap (λ x. option_flatten (option_map (sound h) x)) (arrives a t uui o i r) ∙ is_sound (news_of r)
 
         on_which : (n : Stream) → on_it h m a n z ≡ same_stream stream n
-        on_which n = ap (λ b. b && same_stream (stream_of pk.content) n) (itself a) ∙ ap (λ s. same_stream s n) stream_is
+        on_which n = rw (itself a, stream_is) refl
 
         grown : sounds a stream (h ++ (m ∷ [])) ≡ sounds a stream h ++ (z ∷ [])
         grown = sounds_more h m a stream z is_now (on_which stream ∙ stream_itself stream)
 
-        -- it leaves the other streams
-        pub apart : (n : Stream) → same_stream stream n ≡ false → sounds a n (h ++ (m ∷ [])) ≡ sounds a n h
-        apart n e = sounds_apart h m a n z is_now (on_which n ∙ e)
-
-        pub leads_after : greatest made_for (sounds a stream (h ++ (m ∷ []))) ≡ cond (is_news answer) (Some z) (greatest made_for (sounds a stream h))
+        leads_after : greatest made_for (sounds a stream (h ++ (m ∷ []))) ≡ cond (is_news answer) (Some z) (greatest made_for (sounds a stream h))
         leads_after = ap (greatest made_for) grown ∙ heard_next.leads z refl
 
-        traced_now : Traced (h ++ (m ∷ [])) a z
-        traced_now = record {
-          from = i;
-          made = packet_stays h m (other a) i pk made;
-          order = λ u e. come_now h m (arriving a t uui o (Some i) (news_of r)) (arrives a t uui o (Some i) r) u e;
-        }
-
-        pub on_after : On label turn unit (h ++ (m ∷ [])) a stream (placed_after placed (label pk) t answer)
+        on_after : On label turn unit (h ++ (m ∷ [])) a stream (placed_after placed (label pk) t answer)
         on_after = record {
-          heard = subst (λ ss. Hears (point label) is_told turn unit ss (placed_after placed (label pk) t answer)) (sym grown) (heard_next.hears z refl flag);
+          heard = rw grown (heard_next.hears z refl flag);
           traced = λ y e. by (is_news answer) y (sym leads_after ∙ e);
         }
           where
             by : (b : Bool) (y : Sound P Q) → cond b (Some z) (greatest made_for (sounds a stream h)) ≡ Some y → Traced (h ++ (m ∷ [])) a y
-            by true y e = subst (Traced (h ++ (m ∷ [])) a) (some_is z y e) traced_now
-            by false y e = traced_stays h m a y (on.traced y e)
+            by true y e = subst (Traced (h ++ (m ∷ [])) a) (same_Some z y e)
+                (record { from = i; made = packet_stays h m (other a) i pk made; order = come_now h m (arriving a t uui o i (news_of r)) (arrives a t uui o i r) })
+            by false y e = traced_stays m (on.traced y e)
 
-        -- what is told of it is right
-        pub right : Right h (arriving a t uui o (Some i) (news_of r))
+        right : Right h (arriving a t uui o i (news_of r))
         right = record {
-          exactly = flag ∙ heard_next.exactly
-              ∙ sym (ap (later_than_all h) (is_sound (news_of r)) ∙ ap (all (λ s. ltb s.packet.time pk.time)) (earlier_is (news_of r)));
+          exactly = rw (is_sound (news_of r), stream_is) (flag ∙ heard_next.exactly);
           origin = λ n e. by n answer refl (sym names ∙ e);
         }
           where
-            by : (n : Named P Q) (x : Result (Told Moved) Refusal) → answer ≡ x → naming pk.content x ≡ Some n → Origin h (arriving a t uui o (Some i) (news_of r)) n
+            by : (n : Named P Q) (x : Result (Told Moved) Refusal) → answer ≡ x → naming pk.content x ≡ Some n → Origin h (arriving a t uui o i (news_of r)) n
             by n (Ok (News k)) is e =
-                let same = some_is (record { content = pk.content; elapsed = k.elapsed }) n e in
+                let same = same_Some (record { content = pk.content; elapsed = k.elapsed }) n e in
                 record {
                   copy = z;
                   is_sound = is_sound (news_of r);
                   content = ap (λ (v : Named P Q). v.content) (sym same);
-                  elapsed = subst (λ ss. Since (latest_news ss) z n.elapsed) (sym (earlier_is (news_of r)))
-                      (subst (λ (v : Named P Q). Since (latest_news (sounds a stream h)) z v.elapsed) same
-                      (since_of z refl (latest_news (sounds a stream h)) k.elapsed (heard_next.since k is)));
+                  elapsed = rw (stream_is, ← ap (λ (v : Named P Q). v.elapsed) same) (since_of (latest_news (sounds a stream h)) (news_of r) k.elapsed (heard_next.since k is));
                 }
-            by n (Ok Repeat) is e = none_some n e
-            by n (Ok Late) is e = none_some n e
-            by n (Err f) is e = none_some n e
+            by n x is e = absurd (none-some n e)
+
+        pub one_more : OneMore label turn unit h a stream (placed_after placed (label pk) t answer) (is_news answer) m z
+        one_more = record { apart = λ n e. sounds_stay h m a n (rw (is_now, on_which n, e) refl); leads = leads_after; on_after = on_after; right = right }

@@ -1,5 +1,6 @@
 -- The two kinds of an end, told by which: their meanings, their streams, and what a payload of theirs does. Assumes nothing.
-use Rattle.std.proofs.Common.{◌≡◌, ℕ, false, cond, Some, Ok, Err, Option, Result, refl}
+use Rattle.std.proofs.Common.{◌≡◌, ℕ, false, cond, Some, Ok, Option, Result, refl, arith}
+use Rattle.std.proofs.lemmas.Grind.{common_steps}
 use Rattle.refusal.specs.declared.Refusal.{Refusal}
 use Rattle.type3.specs.Kinds.{Meaning, Lawful}
 use Rattle.type3.specs.Octets.{written, read_either}
@@ -12,7 +13,6 @@ use Rattle.sending.specs.Sending.{Stream}
 use Rattle.placing.specs.declared.stream.Placed.{Placed}
 use Rattle.placing.specs.declared.stream.Moved.{Moved}
 use Rattle.placing.specs.declared.stream.Told.{Told}
-use Rattle.placing.specs.declared.stream.Told.TheVariants.{News, Repeat, Late}
 use Rattle.placing.specs.declared.receiver.MessageNews.{MessageNews}
 use Rattle.placing.specs.Placing.{placed_after}
 use Rattle.placing.specs.Receiving.{Inbound, receive_by, receive}
@@ -44,59 +44,50 @@ module _ (P Q : Type 0) where
   kind_is First m = refl
   kind_is Second m = refl
 
-  -- the streams of a kind
-  abbrev pub out : (w : Which) → End P Q → Stream (Of P Q w)
-  out First s = s.first_out
-  out Second s = s.second_out
+  -- the first and the second of two, with that of a kind replaced
+  abbrev pub new_first : (F : Type 0 → Type 0) (w : Which) → F (Of P Q w) → F P → F P
+  new_first F First r x = r
+  new_first F Second r x = x
 
-  abbrev pub into : (w : Which) → End P Q → Inbound (Of P Q w)
-  into First s = s.first_in
-  into Second s = s.second_in
-
-  abbrev pub with_in : (w : Which) → End P Q → ℕ → Inbound (Of P Q w) → End P Q
-  with_in First s clock r = with_ins s clock s.audio_in r s.second_in
-  with_in Second s clock r = with_ins s clock s.audio_in s.first_in r
-
-  pub clock_is : (w : Which) (s : End P Q) (clock : ℕ) (r : Inbound (Of P Q w)) → (with_in w s clock r).clock ≡ clock
-  clock_is First s clock r = refl
-  clock_is Second s clock r = refl
-
-  pub audio_is : (w : Which) (s : End P Q) (clock : ℕ) (r : Inbound (Of P Q w)) → (with_in w s clock r).audio_in ≡ s.audio_in
-  audio_is First s clock r = refl
-  audio_is Second s clock r = refl
-
-  -- what is so of the new stream, and of the other as it was, is so of both
-  pub lane_by_lane : (w : Which) (s : End P Q) (clock : ℕ) (r : Inbound (Of P Q w)) (So : (v : Which) → Inbound (Of P Q v) → Type 0)
-      → So w r → ((v : Which) → same_kind w v ≡ false → So v (into v s)) → (v : Which) → So v (into v (with_in w s clock r))
-  lane_by_lane First s clock r So new others First = new
-  lane_by_lane First s clock r So new others Second = others Second refl
-  lane_by_lane Second s clock r So new others First = others First refl
-  lane_by_lane Second s clock r So new others Second = new
-
-  -- sending leaves what is received of messages
-  pub into_stays : (v : Which) (s : End P Q) (free : ℕ) (first : Stream P) (second : Stream Q) → into v (with_outs s free first second) ≡ into v s
-  into_stays First s free first second = refl
-  into_stays Second s free first second = refl
-
-  -- as does audio
-  pub into_same : (v : Which) (s : End P Q) (clock : ℕ) (audio : Option Placed) → into v (with_ins s clock audio s.first_in s.second_in) ≡ into v s
-  into_same First s clock audio = refl
-  into_same Second s clock audio = refl
-
-  -- and receiving leaves what is sent
-  pub out_stays : (v : Which) (s : End P Q) (clock : ℕ) (audio : Option Placed) (first : Inbound P) (second : Inbound Q) → out v (with_ins s clock audio first second) ≡ out v s
-  out_stays First s clock audio first second = refl
-  out_stays Second s clock audio first second = refl
+  abbrev pub new_second : (F : Type 0 → Type 0) (w : Which) → F (Of P Q w) → F Q → F Q
+  new_second F First r y = y
+  new_second F Second r y = r
 
   -- an answer on the stream of a kind
   abbrev pub on_lane : (w : Which) → Result (Told (MessageNews (Of P Q w))) Refusal → Result (Arrived P Q) Refusal
   on_lane First r = first_answer r
   on_lane Second r = second_answer r
 
+module _ {P Q : Type 0} where
+  -- of two, that of a kind
+  abbrev pub of_both : (F : Type 0 → Type 0) (w : Which) → F P → F Q → F (Of P Q w)
+  of_both F First x y = x
+  of_both F Second x y = y
+
+  -- what is so of the new one, and of the other as it was, is so of both
+  pub lane_by_lane : (F : Type 0 → Type 0) (w : Which) (r : F (Of P Q w)) (x : F P) (y : F Q) (So : (v : Which) → F (Of P Q v) → Type 0)
+      → So w r → ((v : Which) → same_kind w v ≡ false → So v (of_both F v x y)) → (v : Which) → So v (of_both F v (new_first P Q F w r x) (new_second P Q F w r y))
+  lane_by_lane F First r x y So new others First = new
+  lane_by_lane F First r x y So new others Second = others Second refl
+  lane_by_lane F Second r x y So new others First = others First refl
+  lane_by_lane F Second r x y So new others Second = new
+
+  -- the streams of a kind, and an end with a new one
+  abbrev pub out : (w : Which) → End P Q → Stream (Of P Q w)
+  out w s = of_both Stream w s.first_out s.second_out
+
+  abbrev pub into : (w : Which) → End P Q → Inbound (Of P Q w)
+  into w s = of_both Inbound w s.first_in s.second_in
+
+  abbrev pub with_out : (w : Which) → End P Q → Stream (Of P Q w) → End P Q
+  with_out w s r = with_outs s s.free (new_first P Q Stream w r s.first_out) (new_second P Q Stream w r s.second_out)
+
+  abbrev pub with_in : (w : Which) → End P Q → ℕ → Inbound (Of P Q w) → End P Q
+  with_in w s clock r = with_ins s clock s.audio_in (new_first P Q Inbound w r s.first_in) (new_second P Q Inbound w r s.second_in)
+
   module _ (p : Meaning P) (q : Meaning Q) where
     abbrev pub meaning : (w : Which) → Meaning (Of P Q w)
-    meaning First = p
-    meaning Second = q
+    meaning w = of_both Meaning w p q
 
     pub lawful : Lawful p → Lawful q → (w : Which) → Lawful (meaning w)
     lawful lp lq First = lp
@@ -104,7 +95,7 @@ module _ (P Q : Type 0) where
 
     -- a payload of a kind is read as such
     pub read_lane : Lawful p → Lawful q → (p.message_type ≡ q.message_type → ⊥) → (w : Which) (x : Payload (Of P Q w)) → Fits x
-        → read_either p q (written (meaning w) x) ≡ Ok (saying w x)
+        → read_either p q (written (meaning w) x) ≡ Ok (saying P Q w x)
     read_lane lp lq ne First x fit = first_written p q lp lq x fit
     read_lane lp lq ne Second x fit = second_written p q lp lq x fit ne
 
@@ -113,30 +104,20 @@ module _ (P Q : Type 0) where
     received w s a x = receive (meaning w) (into w s) a x
 
     pub arrive_lane : (w : Which) (s : End P Q) (a : ℕ) (x : Payload (Of P Q w))
-        → arrive_read p q s a (Ok (saying w x)) ≡ (on_lane w (received w s a x).0, with_in w s (clock_after s a (received w s a x).0) (received w s a x).1)
+        → arrive_read p q s a (Ok (saying P Q w x)) ≡ (on_lane P Q w (received w s a x).0, with_in w s (clock_after s a (received w s a x).0) (received w s a x).1)
     arrive_lane First s a x = refl
     arrive_lane Second s a x = refl
 
     -- what is news there names the message
     pub news_lane : (w : Which) (r : Inbound (Of P Q w)) (x : Payload (Of P Q w)) (told : Result (Told Moved) Refusal) (placed : Option Placed)
-        → news_of (on_lane w (receive_by (meaning w) r x told placed).0) ≡ naming (message (inj w x.message)) told
-    news_lane First r x (Ok (News n)) placed = refl
-    news_lane First r x (Ok Repeat) placed = refl
-    news_lane First r x (Ok Late) placed = refl
-    news_lane First r x (Err f) placed = refl
-    news_lane Second r x (Ok (News n)) placed = refl
-    news_lane Second r x (Ok Repeat) placed = refl
-    news_lane Second r x (Ok Late) placed = refl
-    news_lane Second r x (Err f) placed = refl
+        → news_of (on_lane P Q w (receive_by (meaning w) r x told placed).0) ≡ naming (message (inj P Q w x.message)) told
+    news_lane First r x told placed = grind (arith, common_steps)
+    news_lane Second r x told placed = grind (arith, common_steps)
 
 -- the stream after a payload: where it stands, and what is in force
 module _ {M : Type 0} (k : Meaning M) (s : Inbound M) (x : Payload M) (label a : ℕ) where
   pub placed_by : (r : Result (Told Moved) Refusal) → (receive_by k s x r (placed_after s.placed label a r)).1.placed ≡ placed_after s.placed label a r
-  placed_by (Ok n) = refl
-  placed_by (Err f) = refl
+  placed_by r = grind (arith, common_steps)
 
   pub force_by : (r : Result (Told Moved) Refusal) (placed : Option Placed) → (receive_by k s x r placed).1.force ≡ cond (is_news r) (Some x.message) s.force
-  force_by (Ok (News n)) placed = refl
-  force_by (Ok Repeat) placed = refl
-  force_by (Ok Late) placed = refl
-  force_by (Err f) placed = refl
+  force_by r placed = grind (arith, common_steps)
