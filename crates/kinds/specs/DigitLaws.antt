@@ -1,45 +1,39 @@
 -- The laws of dialled digits. Assumes nothing.
-use Rattle.std.specs.Prelude.{◌≡◌, ℕ, ◌+◌, ◌*◌, ◌/◌, ◌%◌, ◌<◌, ◌≤◌, Bool, true, false, cond, ◌&&◌, ltb, ◌↔◌, List, [], ◌∷◌, length, ℤ, Some, None, Ok, Err, Option, nat_le, nat_lt, slice_index, refl}
+use Rattle.std.specs.Prelude.{◌≡◌, ℕ, ◌+◌, ◌*◌, ◌/◌, ◌%◌, ◌<◌, ◌≤◌, Bool, true, false, ◌&&◌, ltb, ◌↔◌, List, [], ◌∷◌, length, ℤ, Some, None, Ok, Err, Option, nat_le, nat_lt, slice_index, refl}
 use Rattle.std.proofs.Common.{ap, sym, subst, eqb, ◌∙◌, arith}
 use mathlib.Core.HLevel.{is_prop→PathP}
 use denote.Struct.Props.{props}
 use denote.Enum.Bare.{sameb}
 use denote.Enum.Declared.{tag_of}
 use Rattle.std.proofs.lemmas.Bool.Decides.{nat_tests}
-use Rattle.std.proofs.lemmas.Bool.{both_ways, and_parts, eqb-true, ltb-true, le-leb, eq-eqb}
+use Rattle.std.proofs.lemmas.Bool.{both_ways, ltb-true, le-leb}
+use Rattle.std.proofs.lemmas.Grind.{elements}
 use Rattle.std.specs.Option.{ok_or, option_and_then}
 use Rattle.refusal.specs.Questions.{asked, one_of}
 use Rattle.refusal.specs.declared.KindFault.{KindFault}
 use Rattle.refusal.specs.declared.Refusal.TheVariants.{Kind}
-use Rattle.refusal.specs.declared.KindFault.TheVariants.{DigitType, DigitCode, Body}
+use Rattle.refusal.specs.declared.KindFault.TheVariants.{DigitCode, Body}
 use Rattle.type3.specs.Kinds.{Lawful, or_cause}
 use Rattle.kinds.specs.Systems.{number_of, system_of}
 use Rattle.kinds.specs.Codes.{is_code}
 use Rattle.kinds.specs.Digits.{digits, digit_by, digit_in, digit, level_of, make, make_by, read_octets, same_digit}
 use Rattle.kinds.specs.contracts.system.System.{the_type}
 use Rattle.kinds.specs.declared.system.System.{System}
-use Rattle.kinds.specs.declared.system.System.TheVariants.{Dtmf, MfR1, MfR2Forward, MfR2Backward}
 use Rattle.kinds.specs.declared.digit.Digit.{Digit}
 
 -- ---- a type and its number
 
 number_back : (s : System) → system_of (number_of s) ≡ Some s
-number_back Dtmf = refl
-number_back MfR1 = refl
-number_back MfR2Forward = refl
-number_back MfR2Backward = refl
+number_back s = grind arith
 
 number_low : (s : System) → number_of s ≤ 3
-number_low Dtmf = omega arith
-number_low MfR1 = omega arith
-number_low MfR2Forward = omega arith
-number_low MfR2Backward = omega arith
+number_low s = grind arith
 
 pub system_low : (n : ℕ) (s : System) → system_of n ≡ Some s → number_of s ≡ n
 system_low n s e = grind (arith, nat_tests)
 
 same_system : (s t : System) → number_of s ≡ number_of t → s ≡ t
-same_system s t e = let f : Some s ≡ Some t = sym (number_back s) ∙ ap system_of e ∙ number_back t in cc
+same_system s t e = grind arith
 
 -- ---- a digit and its parts
 
@@ -63,16 +57,13 @@ pub digit_is : (d : Digit) → digit_in d.level d.system d.code ≡ Some d
 digit_is d = by_is d _ _ refl refl
 
 by_parts : (l : ℕ) (t : System) (c : ℕ) (x y : Bool) (p : ltb l 32 ≡ x) (q : is_code (number_of t) c ≡ y) (d : Digit) → digit_by l t c x y p q ≡ Some d → (d.level ≡ l) × (d.system ≡ t) × (d.code ≡ c)
-by_parts l t c true true p q d e = grind arith
-by_parts l t c true false p q d e = grind arith
-by_parts l t c false y p q d e = grind arith
+by_parts l t c x y p q d e = grind arith
 
 parts_in : (l : ℕ) (o : Option System) (c : ℕ) (d : Digit) → option_and_then (λ s. digit_in l s c) o ≡ Some d → (d.level ≡ l) × (o ≡ Some d.system) × (d.code ≡ c)
-parts_in l None c d e = grind arith
-parts_in l (Some s) c d e = let p = by_parts l s c _ _ refl refl d e in (p.0, ap Some (sym p.1), p.2)
+parts_in l o c d e = let parts = λ (s : System). by_parts l s c _ _ refl refl d in grind arith
 
 parts_are : (l t c : ℕ) (d : Digit) → digit l t c ≡ Some d → (d.level ≡ l) × (number_of d.system ≡ t) × (d.code ≡ c)
-parts_are l t c d e = let p = parts_in l (system_of t) c d e in (p.0, system_low t d.system p.1, p.2)
+parts_are l t c d e = let p = parts_in l (system_of t) c d e in let low = system_low t d.system in grind arith
 
 code_facts : (t c : ℕ) → is_code t c ≡ true → (t ≤ 3) × (c < 32)
 code_facts t c e = grind (arith, nat_tests)
@@ -96,10 +87,7 @@ forth a b d e =
     (p.0, omega (arith, p.1, p.2))
 
 two : (o : List ℕ) → length o ≡ 2 → o ≡ slice_index o 0 ∷ slice_index o 1 ∷ []
-two [] e = grind arith
-two (x ∷ []) e = grind arith
-two (x ∷ y ∷ []) e = refl
-two (x ∷ y ∷ z ∷ zs) e = absurd (omega arith)
+two o e = grind (arith, elements)
 
 body_is : (o : List ℕ) (d : Digit) → length o ≡ 2 → read_octets (slice_index o 0) (slice_index o 1) ≡ Ok d → d.level ∷ (number_of d.system * 32 + d.code) ∷ [] ≡ o
 body_is o d n e = let f = forth (slice_index o 0) (slice_index o 1) d e in let t = two o n in cc
@@ -113,66 +101,45 @@ alike d e h =
     same_parts d e parts.0 (same_system d.system e.system parts.1) parts.2
 
 itself : (d : Digit) → same_digit d d ≡ true
-itself d = rw (eq-eqb d.level d.level refl, eq-eqb (number_of d.system) (number_of d.system) refl, eq-eqb d.code d.code refl)
+itself d = grind (arith, nat_tests)
 
 -- `==` of the program
 abbrev equal : Digit → Digit → Bool
 equal d e = eqb d.level e.level && (sameb the_type d.system e.system && eqb d.code e.code)
 
 tag_is : (s : System) → tag_of the_type s ≡ number_of s
-tag_is Dtmf = refl
-tag_is MfR1 = refl
-tag_is MfR2Forward = refl
-tag_is MfR2Backward = refl
-
-unlike_at : (d e : Digit) → equal d e ≡ true → d ≡ e
-unlike_at d e h =
-    let p = and_parts (eqb d.level e.level) (sameb the_type d.system e.system && eqb d.code e.code) h in
-    let q = and_parts (sameb the_type d.system e.system) (eqb d.code e.code) p.1 in
-    let s : number_of d.system ≡ number_of e.system = sym (tag_is d.system) ∙ eqb-true _ _ q.0 ∙ tag_is e.system in
-    same_parts d e (eqb-true _ _ p.0) (same_system d.system e.system s) (eqb-true _ _ q.1)
-
-equal_self : (d : Digit) → equal d d ≡ true
-equal_self d = rw (eq-eqb d.level d.level refl, eq-eqb (tag_of the_type d.system) (tag_of the_type d.system) refl, eq-eqb d.code d.code refl)
+tag_is s = grind arith
 
 pub digits_compare : (d e : Digit) → (equal d e ≡ true) ↔ (d ≡ e)
-digits_compare d e = (unlike_at d e, λ h. subst (λ x. equal d x ≡ true) h (equal_self d))
+digits_compare d e =
+    let one = tag_is d.system in
+    let other = tag_is e.system in
+    let is : equal d e ≡ same_digit d e = grind (arith, nat_tests) in
+    (λ h. alike d e (sym is ∙ h), λ h. is ∙ subst (λ x. same_digit d x ≡ true) h (itself d))
 
 -- ---- what is answered once a type's number was tried
 
 type_was : (t : ℕ) (s : System) (x : KindFault) → Ok s ≡ ok_or (system_of t) x → system_of t ≡ Some s
-type_was t s x e = by (system_of t) e
-  where
-    by : (o : Option System) → Ok s ≡ ok_or o x → o ≡ Some s
-    by o e = grind arith
+type_was t s x e = grind arith
 
 pub made_is : (t c : ℕ) (l : ℤ) (s : System) (x : KindFault) → Ok s ≡ ok_or (system_of t) x → ok_or (digit_in (level_of l) s c) (Kind DigitCode) ≡ make t c l
 made_is t c l s x is =
     let e = type_was t s x is in
     let n = number_low s in
     let k = system_low t s e in
-    sym (ap (λ b. cond b (ok_or (digit (level_of l) t c) (Kind DigitCode)) (Err (Kind DigitType))) (le-leb t 3 (omega arith))
-    ∙ ap (λ o. ok_or (option_and_then (λ u. digit_in (level_of l) u c) o) (Kind DigitCode)) e)
-
-told : (o : Option Digit) → ok_or o (Kind (Body 3)) ≡ or_cause (ok_or o 3)
-told None = refl
-told (Some d) = refl
+    grind (arith, nat_tests)
 
 pub read_is : (a b : ℕ) (s : System) (x : KindFault) → nat_lt a 32 ≡ true → Ok s ≡ ok_or (system_of (b / 32)) x → ok_or (digit_in a s (b % 32)) (Kind (Body 3)) ≡ or_cause (read_octets a b)
 read_is a b s x low is =
     let e = type_was (b / 32) s x is in
     let n = number_low s in
     let k = system_low (b / 32) s e in
-    let t = le-leb (b / 32) 3 (omega arith) in
-    told (digit_in a s (b % 32))
-    ∙ sym (ap or_cause (ap (λ l. cond l (cond (nat_le (b / 32) 3) (ok_or (digit a (b / 32) (b % 32)) 3) (Err 2)) (Err 1)) low
-    ∙ ap (λ l. cond l (ok_or (digit a (b / 32) (b % 32)) 3) (Err 2)) t
-    ∙ ap (λ o. ok_or (option_and_then (λ u. digit_in a u (b % 32)) o) 3) e))
+    grind (arith, nat_tests)
 
 -- the same of the code of a key
 pub key_made : (o : Option ℕ) (c : ℕ) (l : ℤ) (x : KindFault) → ok_or o x ≡ Ok c → make 0 c l ≡ make_by o l
-key_made (Some k) c l x e = let i : k ≡ c = cc in ap (λ n. make 0 n l) (sym i)
-key_made None c l x e = let z : ◌≡◌ {A = ℕ} 0 1 = cc in absurd (omega arith)
+key_made (Some k) c l x e = let same : k ≡ c = cc in rw same
+key_made None c l x e = cc
 
 pub digits_lawful : Lawful digits
 digits_lawful = record {

@@ -72,6 +72,7 @@ impl Kind for Digits {
         }
     }
 
+    #[tactic(auto, using(crate::specs::DigitLaws::read_is))]
     fn read_body(octets: &[u8]) -> Result<Digit, Refusal> {
         let level = octets[0];
         if level >= 32 {

@@ -15,6 +15,7 @@ use type3::reading::read_either;
 
 // Reads one payload of digits or of CAS. Read, it is message type × 65,536 + octet 1 × 256 + octet 2 of the payload; refused,
 // the refusal's number, and where the kind does not read the body that number + 256 × the cause.
+#[tactic(auto, using(crate::proofs::Numbers::refused_told))]
 pub fn gublaisma_read_type3(payload: &[u8]) -> u32
     ensures value { result ≡ told payload.now }
     ensures apart { Apart (read_either digits cas payload.now) result }

@@ -3,6 +3,5 @@ pub mod Turns
 pub mod Kept
 pub mod Behind
 pub mod Histories
-pub mod Plan
 pub mod Moments
 pub mod Milliseconds

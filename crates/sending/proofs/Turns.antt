@@ -1,17 +1,14 @@
 -- What a call on a message stream does: it is refused, or its event is accepted, or nothing is due, or a packet is made.
 -- Assumes nothing.
-use Rattle.std.proofs.Common.{◌≡◌, ℕ, ◌≤◌, Bool, true, ◌&&◌, Some, None, Ok, Option, Result, refl, arith, leb-true}
+use Rattle.std.proofs.Common.{◌≡◌, ℕ, ◌≤◌, Bool, true, ◌&&◌, Some, None, Ok, Option, Result, refl, arith}
+use Rattle.std.proofs.lemmas.Bool.Decides.{nat_tests}
 use Rattle.refusal.specs.Questions.{first_no, unless}
 use Rattle.refusal.specs.declared.Refusal.{Refusal}
-use Rattle.refusal.proofs.Asked.{accepted as all_yes}
 use Rattle.type3.specs.Kinds.{Meaning}
 use Rattle.sending.specs.declared.event.Event.{Event}
 use Rattle.sending.specs.Sending.{Stream, later, later_than_event, event_questions, due_of, after_packet, sent, due_questions}
 use Rattle.sending.specs.declared.event.Packet.{Packet}
 use Rattle.sending.specs.Runs.{Call, event, due, Did, accepted, made, neither, did_event, did_due, does, step}
-
-pub impossible : {X : Type 0} → ◌≡◌ {A = ℕ} 0 1 → X
-impossible h = absurd (omega arith)
 
 -- a call that was not refused: its time is in the range, and not behind the clock
 pub record Current (clock t : ℕ) : Type 0 where
@@ -45,19 +42,12 @@ module _ {M : Type 0} where
         e = record { time = t; message = m }
 
         by : (o : Option Refusal) → first_no (event_questions s t) ≡ o → P (did_event e (unless o s (taken s e)).0) (unless o s (taken s e)).1
-        by None is =
-            let yes = (all_yes (λ f. Some f) None (event_questions s t) None (λ f e. impossible (cc)) is).0 in
-            event_taken e (record { in_time = leb-true t 1099511627775 yes.0; not_behind = leb-true s.clock t yes.1.0 }) yes.1.1.0
+        by None is = event_taken e (record { in_time = grind (arith, nat_tests); not_behind = grind (arith, nat_tests) }) (grind (arith, nat_tests))
         by (Some f) is = refused
-    each_call (due t room) = by (first_no (due_questions k s t room)) refl
+    each_call (due t room) = by (first_no (due_questions k s t room)) refl (due_of s t) refl
       where
-        found : Current s.clock t → (o : Option (Packet M)) → due_of s t ≡ o → P (did_due t o (sent k s t o).0) (sent k s t o).1
-        found on None is = nothing_due t on
-        found on (Some d) is = packet_made t d on is
-
-        by : (o : Option Refusal) → first_no (due_questions k s t room) ≡ o →
-            P (did_due t (due_of s t) (unless o s (sent k s t (due_of s t))).0) (unless o s (sent k s t (due_of s t))).1
-        by None is =
-            let yes = (all_yes (λ f. Some f) None (due_questions k s t room) None (λ f e. impossible (cc)) is).0 in
-            found (record { in_time = leb-true t 1099511627775 yes.0; not_behind = leb-true s.clock t yes.1.0 }) (due_of s t) refl
-        by (Some f) is = refused
+        by : (o : Option Refusal) → first_no (due_questions k s t room) ≡ o → (d : Option (Packet M)) → due_of s t ≡ d →
+            P (did_due t d (unless o s (sent k s t d)).0) (unless o s (sent k s t d)).1
+        by None is None not_due = nothing_due t (record { in_time = grind (arith, nat_tests); not_behind = grind (arith, nat_tests) })
+        by None is (Some d) is_due = packet_made t d (record { in_time = grind (arith, nat_tests); not_behind = grind (arith, nat_tests) }) is_due
+        by (Some f) is d now = refused

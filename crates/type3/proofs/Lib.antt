@@ -1,6 +1,5 @@
 pub mod Buffers
 pub mod Parts
-pub mod Asking
 pub mod Writes
 pub mod RoundTrip
 pub mod Values

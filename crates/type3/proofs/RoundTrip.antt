@@ -1,18 +1,16 @@
 -- What is written is read again, and nothing else is read. Assumes nothing.
-use Rattle.std.proofs.Common.{◌≡◌, ℕ, ◌+◌, ◌-◌, ◌*◌, ◌/◌, ◌%◌, ◌<◌, ◌≤◌, Bool, true, eqb, List, [], ◌∷◌, length, get_or, take, Ok, Err, Result, sym, refl, ap, ◌∙◌, ap₂, arith}
+use Rattle.std.proofs.Common.{◌≡◌, ℕ, ◌+◌, ◌-◌, ◌*◌, ◌/◌, ◌%◌, ◌<◌, ◌≤◌, Bool, true, List, ◌∷◌, length, get_or, take, Ok, sym, refl, ap, ◌∙◌, arith}
 use Rattle.std.proofs.lemmas.Bool.{eqb-true, eq-eqb}
 use Rattle.std.proofs.lemmas.Bool.Decides.{nat_tests}
-use Rattle.refusal.specs.Questions.{from_to}
-use Rattle.refusal.specs.declared.Refusal.TheVariants.{Type3}
-use Rattle.refusal.specs.declared.Type3Fault.TheVariants.{KindLength}
-use Rattle.refusal.proofs.Asked.{Yes, asked_yes, accepted}
+use Rattle.std.proofs.lemmas.List.{length-append, length-take, length-drop}
+use Rattle.refusal.proofs.Asked.{Yes}
 use Rattle.crc10.specs.Check.{octet_bits, check_field, crc, crc_of, right}
 use Rattle.crc10.proofs.Ends.{field_end, checked_end, high_six, crc_low}
-use Rattle.type3.specs.Kinds.{Meaning, Lawful, or_cause}
-use Rattle.type3.specs.Octets.{framed, written, redundancy_in, stamp_in, body_in, type_in, questions, says, read_named, read}
+use Rattle.type3.specs.Kinds.{Meaning, Lawful}
+use Rattle.type3.specs.Octets.{framed, written, redundancy_in, stamp_in, body_in, type_in, questions, read_named, read}
 use Rattle.type3.specs.declared.payload.Payload.{Payload}
 use Rattle.type3.specs.Exactly.{Fits, Holds}
-use Rattle.type3.proofs.Parts.{parts, parts_length, parts_body, parts_top, is_parts}
+use Rattle.type3.proofs.Parts.{parts, parts_body, parts_top, is_parts}
 
 -- the upper six bits of the octet before the last do not tell the check
 same_six : (t c d : ℕ) → t ≤ 63 → c < 4 → d < 4 → take 6 (octet_bits (t * 4 + c)) ≡ take 6 (octet_bits (t * 4 + d))
@@ -39,9 +37,7 @@ module _ {M : Type 0} (k : Meaning M) (law : Lawful k) (x : Payload M) where
       ∙ (let e : (k.message_type * 4 + c / 256) % 4 * 256 + c % 256 ≡ c = omega arith in e)
 
   pub length_written : length (written k x) ≡ k.len + 4
-  length_written =
-      parts_length (x.redundancy * 64 + x.stamp / 256) (x.stamp % 256) (k.body x.message) (k.message_type * 4 + crc_of (framed k x 0) / 256) (crc_of (framed k x 0) % 256)
-      ∙ ap (λ n. n + 4) (law.body_len x.message)
+  length_written = let long = law.body_len x.message in simp length-append (omega arith)
 
   pub type_written : type_in (written k x) ≡ k.message_type
   type_written =
@@ -60,8 +56,7 @@ module _ {M : Type 0} (k : Meaning M) (law : Lawful k) (x : Payload M) where
       let l = length_written in
       let low = law.some_body in
       let high = law.small_body in
-      let size : (n : ℕ) → n ≡ k.len + 4 → from_to 5 12 n ≡ true = λ n h. grind (arith, nat_tests) in
-      (size (length (written k x)) l, (right_written, (e, tt)))
+      (grind (arith, nat_tests), (right_written, (e, tt)))
 
   -- and says what was written
   pub named_written : Fits x → read_named k (written k x) ≡ Ok x
@@ -73,34 +68,25 @@ module _ {M : Type 0} (k : Meaning M) (law : Lawful k) (x : Payload M) where
       let c : ℕ = crc_of (framed k x 0) in
       let r : (x.redundancy * 64 + x.stamp / 256) / 64 ≡ x.redundancy = omega arith in
       let s : (x.redundancy * 64 + x.stamp / 256) % 64 * 256 + x.stamp % 256 ≡ x.stamp = omega arith in
-      asked_yes (λ f. Err f) (says (written k x) (or_cause (k.read (body_in (written k x))))) ((eqb (length (written k x)) (k.len + 4), Type3 KindLength) ∷ []) (eq-eqb _ _ length_written, tt)
-      ∙ ap (λ o. says (written k x) (or_cause (k.read o))) (parts_body a b (k.body x.message) (k.message_type * 4 + c / 256) (c % 256))
-      ∙ ap (λ y. says (written k x) (or_cause y)) (law.reads x.message)
-      ∙ ap₂ (λ (u v : ℕ). Ok (record { redundancy = u; stamp = v; message = x.message })) r s
+      let sized = length_written in
+      let body = parts_body a b (k.body x.message) (k.message_type * 4 + c / 256) (c % 256) in
+      let said = law.reads x.message in
+      grind (arith, nat_tests)
 
   pub read_written : Fits x → read k (written k x) ≡ Ok x
   read_written fit =
-      asked_yes (λ f. Err f) (read_named k (written k x)) (questions (written k x) (eqb (type_in (written k x)) k.message_type))
-      (asked_written _ (eq-eqb _ _ type_written))
-      ∙ named_written fit
+      let type = type_written in
+      let asked = asked_written true refl in
+      let named = named_written fit in
+      grind (arith, nat_tests)
 
-  -- what a payload says, where its parts are these, is what was written to it
-  record Found (o : List ℕ) : Type 0 where
-    pub reads : k.read (body_in o) ≡ Ok x.message
-    pub redundancy : redundancy_in o ≡ x.redundancy
-    pub stamp : stamp_in o ≡ x.stamp
-
-  found : (o : List ℕ) (y : Result M ℕ) → k.read (body_in o) ≡ y → says o (or_cause y) ≡ Ok x → Found o
-  found o (Ok m) h e =
-      let i : record { redundancy = redundancy_in o; stamp = stamp_in o; message = m } ≡ x = cc in
-      record { reads = h ∙ ap (λ z. Ok z.message) i; redundancy = ap (λ z. z.redundancy) i; stamp = ap (λ z. z.stamp) i }
-  found o (Err c) h e = let z : ◌≡◌ {A = ℕ} 0 1 = cc in absurd (omega arith)
-
+  -- and a payload says only what was written to it
   pub named_back : (o : List ℕ) → ((i : ℕ) → get_or o i 0 < 256) → right o ≡ true → type_in o ≡ k.message_type → read_named k o ≡ Ok x → Holds k o x
   named_back o fits checks type e =
-      let t = accepted (λ f. Err f) (says o (or_cause (k.read (body_in o)))) ((eqb (length o) (k.len + 4), Type3 KindLength) ∷ []) (Ok x) (λ f d. let z : ◌≡◌ {A = ℕ} 0 1 = cc in absurd (omega arith)) e in
-      let sized : length o ≡ k.len + 4 = eqb-true _ _ t.0.0 in
-      let f = found o (k.read (body_in o)) refl t.1 in
+      let sized : length o ≡ k.len + 4 = grind (arith, nat_tests) in
+      let message : k.read (body_in o) ≡ Ok x.message = grind (arith, nat_tests) in
+      let redundancy : redundancy_in o ≡ x.redundancy = grind (arith, nat_tests) in
+      let stamp : stamp_in o ≡ x.stamp = grind (arith, nat_tests) in
       let low = law.some_body in
       let fits_type = law.type_fits in
       let a : ℕ = get_or o 0 0 in
@@ -108,26 +94,18 @@ module _ {M : Type 0} (k : Meaning M) (law : Lawful k) (x : Payload M) where
       let z : ℕ = get_or o (length o - 2) 0 in
       let w : ℕ = get_or o (length o - 1) 0 in
       let whole : o ≡ parts a b (body_in o) z w = is_parts o (omega arith) in
-      let body : body_in o ≡ k.body x.message = sym (law.writes (body_in o) x.message (sized_body o sized whole) f.reads) in
+      let sized_body : length (body_in o) ≡ k.len = simp (length-take, length-drop) (omega arith) in
+      let body : body_in o ≡ k.body x.message = sym (law.writes (body_in o) x.message sized_body message) in
       let la = fits 0 in
       let lb = fits 1 in
       let lz = fits (length o - 2) in
       let lw = fits (length o - 1) in
       let c : ℕ = z % 4 * 256 + w in
-      let ea : a ≡ x.redundancy * 64 + x.stamp / 256 = omega (arith, f.redundancy, f.stamp) in
-      let eb : b ≡ x.stamp % 256 = omega (arith, f.stamp) in
+      let ea : a ≡ x.redundancy * 64 + x.stamp / 256 = omega arith in
+      let eb : b ≡ x.stamp % 256 = omega arith in
       let ez : z ≡ k.message_type * 4 + (z % 4 * 256 + w) / 256 = omega arith in
       let ew : w ≡ (z % 4 * 256 + w) % 256 = omega arith in
-      let framed_is : o ≡ framed k x c = whole ∙ parts_same ea eb body ez ew in
+      let framed_is : o ≡ framed k x c = cc in
       let check : c ≡ crc_of (framed k x 0) =
       sym (field_framed c (omega arith)) ∙ sym (ap check_field framed_is) ∙ eqb-true _ _ checks ∙ ap crc_of framed_is ∙ crc_framed c (omega arith) in
-      ((omega (arith, f.redundancy), omega (arith, f.stamp)), framed_is ∙ ap (framed k x) check)
-    where
-      sized_body : (o : List ℕ) → length o ≡ k.len + 4 → o ≡ parts (get_or o 0 0) (get_or o 1 0) (body_in o) (get_or o (length o - 2) 0) (get_or o (length o - 1) 0) → length (body_in o) ≡ k.len
-      sized_body o e is =
-          let l = ap length is in
-          let p = parts_length (get_or o 0 0) (get_or o 1 0) (body_in o) (get_or o (length o - 2) 0) (get_or o (length o - 1) 0) in
-          omega arith
-
-      parts_same : {a a' b b' : ℕ} {q q' : List ℕ} {z z' w w' : ℕ} → a ≡ a' → b ≡ b' → q ≡ q' → z ≡ z' → w ≡ w' → parts a b q z w ≡ parts a' b' q' z' w'
-      parts_same ea eb eq ez ew = cc
+      ((omega arith, omega arith), framed_is ∙ ap (framed k x) check)

@@ -1,10 +1,10 @@
 -- A written payload that was changed on the way is refused for its check. Assumes nothing.
-use Rattle.std.proofs.Common.{◌≡◌, ℕ, ◌+◌, Bool, true, false, cond, List, length, Err, Result, ap, ◌∙◌, arith}
+use Rattle.std.proofs.Common.{◌≡◌, ℕ, Bool, true, false, List, length, Err, Result, ◌∙◌, arith}
 use Rattle.std.proofs.lemmas.Bool.Decides.{nat_tests}
-use Rattle.refusal.specs.Questions.{asked, from_to}
+use Rattle.refusal.specs.Questions.{asked}
 use Rattle.refusal.specs.declared.Refusal.{Refusal}
 use Rattle.refusal.specs.declared.Refusal.TheVariants.{Type3}
-use Rattle.refusal.specs.declared.Type3Fault.TheVariants.{PayloadSize, WrongCrc, UnknownType}
+use Rattle.refusal.specs.declared.Type3Fault.TheVariants.{WrongCrc}
 use Rattle.crc10.specs.Check.{right}
 use Rattle.crc10.specs.Changes.{changed, found}
 use Rattle.crc10.proofs.Detect.{changes_are_found}
@@ -23,10 +23,7 @@ module _ {M : Type 0} (k : Meaning M) (law : Lawful k) where
       let low = law.some_body in
       let high = law.small_body in
       let wrong : right o ≡ false = changes_are_found (written k x) o (omega arith) (omega arith) e (right_written k law x) ch in
-      let n : length o ≡ k.len + 4 = e ∙ l in
-      let size : (i : ℕ) → i ≡ k.len + 4 → from_to 5 12 i ≡ true = λ i h. grind (arith, nat_tests) in
-      ap (λ b. cond b (cond (right o) (cond known does (Err (Type3 UnknownType))) (Err (Type3 WrongCrc))) (Err (Type3 PayloadSize))) (size (length o) n)
-      ∙ ap (λ b. cond b (cond known does (Err (Type3 UnknownType))) (Err (Type3 WrongCrc))) wrong
+      grind (arith, nat_tests)
 
   pub changed_is_refused : (o : List ℕ) (r : Result (Payload M) Refusal) → r ≡ read k o → ChangedIsRefused k o r
   changed_is_refused o r e p n ch = e ∙ spoiled_asked p o n ch _ (read_named k o)

@@ -1,15 +1,12 @@
 -- What writing a payload leaves in the buffer. Assumes nothing.
-use Rattle.std.proofs.Common.{◌≡◌, ℕ, ◌+◌, ◌-◌, ◌*◌, ◌/◌, ◌%◌, ◌≤◌, true, false, cond, leb, List, ◌++◌, length, take, drop, set, Ok, Err, ap, ◌∙◌, arith}
+use Rattle.std.proofs.Common.{◌≡◌, ℕ, ◌+◌, ◌-◌, ◌*◌, ◌/◌, ◌%◌, ◌≤◌, true, leb, List, ◌++◌, length, take, drop, set, Ok, ap, ◌∙◌, arith}
 use borrow.Rule.Slice.PartMut.{put_mid}
-use Rattle.std.proofs.lemmas.List.{take_at, drop_at}
-use Rattle.refusal.specs.declared.Refusal.TheVariants.{Sending}
-use Rattle.refusal.specs.declared.SendingFault.TheVariants.{BufferTooShort}
+use Rattle.std.proofs.lemmas.List.{take_at, drop_at, length-append}
 use Rattle.crc10.specs.Check.{crc_of}
 use Rattle.type3.specs.Kinds.{Meaning, Lawful}
 use Rattle.type3.specs.Octets.{framed, written, write}
 use Rattle.type3.specs.declared.payload.Payload.{Payload}
 use Rattle.type3.proofs.Buffers.{framed_over}
-use Rattle.type3.proofs.Parts.{parts_length}
 
 module _ {M : Type 0} (k : Meaning M) (law : Lawful k) (x : Payload M) (out : List ℕ) where
   pub frame_is : (check r s n t : ℕ) (b : List ℕ) → k.len + 4 ≤ length out → r ≡ x.redundancy → s ≡ x.stamp → n ≡ k.len → b ≡ k.body x.message → t ≡ k.message_type
@@ -19,9 +16,7 @@ module _ {M : Type 0} (k : Meaning M) (law : Lawful k) (x : Payload M) (out : Li
       (framed_over out (k.body x.message) k.len (x.redundancy * 64 + x.stamp / 256) (x.stamp % 256) (k.message_type * 4 + check / 256) (check % 256) (law.body_len x.message) room)
 
   framed_length : (check : ℕ) → length (framed k x check) ≡ k.len + 4
-  framed_length check =
-      parts_length (x.redundancy * 64 + x.stamp / 256) (x.stamp % 256) (k.body x.message) (k.message_type * 4 + check / 256) (check % 256)
-      ∙ ap (λ n. n + 4) (law.body_len x.message)
+  framed_length check = let long = law.body_len x.message in simp length-append (omega arith)
 
   -- first with no check, and then with the check of that
   pub twice_is : (one two : List ℕ) (n check : ℕ) → n ≡ k.len → one ≡ framed k x 0 ++ drop (k.len + 4) out → check ≡ crc_of (take (n + 4 - 0) one)
@@ -35,7 +30,4 @@ module _ {M : Type 0} (k : Meaning M) (law : Lawful k) (x : Payload M) (out : Li
       g ∙ ap (λ d. framed k x check ++ d) rest ∙ ap (λ c. framed k x c ++ drop (k.len + 4) out) is
 
   pub room_yes : leb (k.len + 4) (length out) ≡ true → write k x out ≡ (Ok (k.len + 4), written k x ++ drop (k.len + 4) out)
-  room_yes e = ap (λ b. cond b (Ok (k.len + 4), written k x ++ drop (k.len + 4) out) (Err (Sending BufferTooShort), out)) e
-
-  pub room_no : leb (k.len + 4) (length out) ≡ false → write k x out ≡ (Err (Sending BufferTooShort), out)
-  room_no e = ap (λ b. cond b (Ok (k.len + 4), written k x ++ drop (k.len + 4) out) (Err (Sending BufferTooShort), out)) e
+  room_yes e = grind arith

@@ -8,8 +8,13 @@ use crate::payload::Payload;
 use crc10::crc_of;
 use refusal::{Refusal, SendingFault};
 
+<<<<<<< ours
 // Writes the payload at the start of `out`, and answers how long it is. (The caller lends the buffer: nothing in service
 // allocates.)
+=======
+// Writes the payload at the start of `out`, and answers how long it is.
+#[tactic(auto, using(crate::proofs::Values::no_two_alike))]
+>>>>>>> theirs
 pub fn write_payload<K: Kind>(
     payload: Payload<K::Message>,
     out: &mut [u8],
@@ -29,6 +34,7 @@ pub fn write_payload<K: Kind>(
 }
 
 // Writes the payload with this check.
+#[tactic(auto, using(crate::proofs::Writes::frame_is))]
 fn frame<K: Kind>(payload: &Payload<K::Message>, check: u16, out: &mut [u8])
     requires check { check < 1024 }
     requires room { K.Kind.model.len + 4 ≤ length out.old }
