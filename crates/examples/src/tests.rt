@@ -37,12 +37,12 @@ fn payload<T: Copy>(redundancy: u8, stamp: u16, message: T) -> Result<Payload<T>
 
 // The number with which a payload of digits or bits is refused, if it is.
 fn refused(octets: &[u8]) -> Option<u8> {
-    match read_either::<Digits, Cas>(octets) {
-        Ok(_) => None,
-        Err(refusal) => Some(refusal.number()),
-    }
+    read_either::<Digits, Cas>(octets)
+        .err()
+        .map(|refusal| refusal.number())
 }
 
+// (Each test keeps the octets that its buffer begins with, so that they are not one function.)
 #[test]
 fn no_bits(rt: HostRuntime) -> Result<(), Fail> {
     let mut octets = [0xff; 5];

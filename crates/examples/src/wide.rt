@@ -21,6 +21,7 @@ pub enum Mark {
 #[derive(Clone, Copy, Debug, PartialEq, Eq)]
 pub struct NoMark;
 
+// The conversions here are by hand, since derived ones have no contract.
 impl From<NoMark> for Refusal {
     ghost from_gives = { λ _ refusal. refusal ≡ OfKind (Body 9) };
 

@@ -29,6 +29,7 @@ impl CasBits {
 #[derive(Clone, Copy, Debug)]
 pub struct NoBits;
 
+// (By hand, as each conversion here is: a derived one has no contract.)
 impl From<NoBits> for Refusal {
     ghost from_gives = { λ _ refusal. refusal ≡ OfKind (Body 1) };
 

@@ -7,7 +7,7 @@ use crate::system::System;
 
 pub mod make;
 
-// The code that ends a tone, of every type.
+// The code that ends a tone, of every type. (Codes are numbers, since each type has its own.)
 pub const TONE_OFF: u8 = 31;
 
 // The level is in dB below 1 mW, 0 to 31. No digit exists whose code its type lacks.
@@ -44,21 +44,19 @@ impl Digit {
 pub fn has_code(system: u8, code: u8) -> bool
     ensures { result ≡ is_code system code }
 {
-    match System::try_from(system) {
-        Ok(system) => has(system, code),
-        Err(_) => false,
-    }
+    System::try_from(system).is_ok_and(|system| system.has(code))
 }
 
-// Whether the digit type has the code.
-pub(crate) fn has(system: System, code: u8) -> bool
-    ensures { result ≡ is_code (number_of system) code }
-{
-    match system {
-        System::Dtmf => code <= 15 || code == TONE_OFF,
-        System::MfR1 => code <= 14 || code == TONE_OFF,
-        System::MfR2Forward | System::MfR2Backward => {
-            1 <= code && code <= 15 || code == TONE_OFF
+impl System {
+    pub(crate) fn has(self, code: u8) -> bool
+        ensures { result ≡ is_code (number_of self) code }
+    {
+        match self {
+            System::Dtmf => code <= 15 || code == TONE_OFF,
+            System::MfR1 => code <= 14 || code == TONE_OFF,
+            System::MfR2Forward | System::MfR2Backward => {
+                1 <= code && code <= 15 || code == TONE_OFF
+            }
         }
     }
 }

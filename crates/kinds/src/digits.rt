@@ -25,6 +25,7 @@ pub enum NoDigit {
     Code,
 }
 
+// (By hand, since a derived conversion has no contract.)
 impl From<NoDigit> for Refusal {
     ghost from_gives = { λ why refusal. refusal ≡ OfKind (Body (cause_number why)) };
 

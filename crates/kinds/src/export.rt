@@ -45,8 +45,7 @@ fn refused(refusal: Refusal) -> u32
     ensures { result ≡ number_told refusal }
 {
     let number = u32::from(refusal.number());
-    match refusal.cause() {
-        Some(cause) => number + 256 * u32::from(cause),
-        None => number,
-    }
+    refusal
+        .cause()
+        .map_or(number, |cause| number + 256 * u32::from(cause))
 }

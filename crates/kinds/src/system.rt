@@ -14,6 +14,7 @@ pub enum System {
     MfR2Backward,
 }
 
+// Both conversions are by hand, since derived ones have no contract.
 impl From<System> for u8 {
     ghost from_gives = { λ system number. number ≡ number_of system };
 

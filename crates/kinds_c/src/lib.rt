@@ -1,4 +1,5 @@
-// What a C program calls: the library's reading of type 3 payloads, under its C name.
+// What a C program calls: the library's reading of type 3 payloads, under its C name. (A crate of its own, since the toolchain
+// builds a crate as a library or as a static library.)
 #![tactic(auto)]
 
 ghost use Rattle.std.specs.Prelude.{◌≡◌};

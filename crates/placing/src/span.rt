@@ -5,7 +5,8 @@ ghost use Rattle.profile.specs.Labels.{interval_of, span_of};
 use profile::profile::Profile;
 use std::marker::Model;
 
-// Some milliseconds, at least one. In contracts it is that number.
+// Some milliseconds, at least one. In contracts it is that number. (A type of its own, as each bounded number is: they hold
+// numbers of different types.)
 #[derive(Clone, Copy, Debug, PartialEq, Eq)]
 pub struct Span {
     ms: u32,

@@ -1,15 +1,16 @@
 -- A walk over a list of entries, one turn. Assumes nothing.
 use Rattle.std.proofs.Common.{◌≡◌, suc, ◌+◌, ◌<◌, ◌≤◌, true, cond, List, [], length, get_or, take, drop, Some, None, Ok, Err, Option, ℕ, sym, ap, ◌∙◌, add-one, arith, drop-cons}
-use Rattle.std.specs.Option.{option_or}
+use Rattle.std.specs.Option.{option_or, option_map}
 use Rattle.std.proofs.lemmas.List.{take_more}
 use Rattle.std.proofs.lemmas.Bool.Decides.{nat_tests}
 use Rattle.refusal.specs.Questions.{first_no, allowed, from_to}
 use Rattle.refusal.specs.declared.Refusal.{Refusal}
 use Rattle.refusal.specs.declared.Refusal.TheVariants.{Profile}
+use Rattle.refusal.specs.declared.ProfileFault.{ProfileFault}
 use Rattle.refusal.specs.declared.ProfileFault.TheVariants.{EntryCount}
-use Rattle.refusal.proofs.Asked.{allowed_err, allowed_ok}
+use Rattle.refusal.proofs.Asked.{allowed_err, allowed_ok, first_no_map}
 use Rattle.profile.specs.declared.entry.Entry.{Entry}
-use Rattle.profile.specs.Questions.{questions, refusal_from, refusal}
+use Rattle.profile.specs.Questions.{faults, questions, refusal_from, refusal}
 
 -- what a slice's element is read as past its end
 abbrev pub blank : Entry
@@ -20,6 +21,9 @@ counted es low high =
     let so : from_to 1 32 (length es) ≡ true = grind (arith, nat_tests) in ap (λ b. cond b (refusal_from [] 0 es) (Some (Profile EntryCount 0))) so
 
 module _ (es : List Entry) (i : ℕ) (h : i < length es) where
+  abbrev fault : Option ProfileFault
+  fault = first_no (faults (take i es) (get_or es i blank))
+
   abbrev here : List Entry → Option Refusal
   here before = first_no (questions before i (get_or es i blank))
 
@@ -32,8 +36,11 @@ module _ (es : List Entry) (i : ℕ) (h : i < length es) where
       ∙ ap (λ l. option_or (here (take i es)) (refusal_from l (i + 1) (drop (suc i) es))) (sym (take_more es i blank h))
       ∙ ap (λ n. option_or (here (take i es)) (refusal_from (take (i + 1) es) (i + 1) (drop n es))) (sym (add-one i))
 
-  pub no_here : (f : Refusal) → Err f ≡ allowed (here (take i es)) → refusal_from (take i es) i (drop i es) ≡ Some f
-  no_here f s = unrolled ∙ ap (λ o. option_or o rest) (allowed_err (here (take i es)) f (sym s))
+  by_fault : {o : Option ProfileFault} → fault ≡ o → here (take i es) ≡ option_map (λ f. Profile f i) o
+  by_fault e = first_no_map (λ f. Profile f i) (faults (take i es) (get_or es i blank)) ∙ ap (option_map (λ f. Profile f i)) e
 
-  pub no_later : (x : Unit {0}) → Ok x ≡ allowed (here (take i es)) → refusal_from (take i es) i (drop i es) ≡ refusal_from (take (i + 1) es) (i + 1) (drop (i + 1) es)
-  no_later tt s = unrolled ∙ ap (λ o. option_or o rest) (allowed_ok (here (take i es)) (sym s))
+  pub no_here : (f : ProfileFault) → Err f ≡ allowed fault → refusal_from (take i es) i (drop i es) ≡ Some (Profile f i)
+  no_here f s = unrolled ∙ ap (λ o. option_or o rest) (by_fault (allowed_err fault f (sym s)))
+
+  pub no_later : (x : Unit {0}) → Ok x ≡ allowed fault → refusal_from (take i es) i (drop i es) ≡ refusal_from (take (i + 1) es) (i + 1) (drop (i + 1) es)
+  no_later tt s = unrolled ∙ ap (λ o. option_or o rest) (by_fault (allowed_ok fault (sym s)))

@@ -1,10 +1,11 @@
 -- What an offered list of entries is asked, and the refusal. Assumes nothing.
-use Rattle.std.specs.Prelude.{ℕ, ◌+◌, ◌-◌, ◌%◌, Bool, true, not, ◌&&◌, List, [], ◌∷◌, ◌++◌, length, Some, None, Option, ◌==◌, nat_le}
+use Rattle.std.specs.Prelude.{ℕ, ◌+◌, ◌-◌, ◌%◌, Bool, true, not, ◌&&◌, List, [], ◌∷◌, ◌++◌, length, map, Some, None, Option, ◌==◌, nat_le}
 use Rattle.std.specs.List.{list_all}
 use Rattle.std.specs.Option.{option_or}
 use Rattle.refusal.specs.Questions.{asked, first_no, from_to, one_of}
 use Rattle.refusal.specs.declared.Refusal.{Refusal}
 use Rattle.refusal.specs.declared.Refusal.TheVariants.{Profile}
+use Rattle.refusal.specs.declared.ProfileFault.{ProfileFault}
 use Rattle.refusal.specs.declared.ProfileFault.TheVariants.{EntryCount, UuiRange, EntryLength, Width, Times, Unlike, Duplicate}
 use Rattle.profile.specs.declared.entry.Entry.{Entry}
 
@@ -36,16 +37,20 @@ alike a e = a.first == e.first && a.last == e.last && a.length == e.length
 abbrev pub differs : List Entry → Entry → Bool
 differs before e = list_all (λ a. not (alike a e)) before
 
--- what an entry at a place is asked, beside the entries before it
-abbrev pub questions : List Entry → ℕ → Entry → List (Bool × Refusal)
-questions before place e =
-    (in_range e, Profile UuiRange place)
-    ∷ (good_length e, Profile EntryLength place)
-    ∷ (aligned e, Profile Width place)
-    ∷ (good_times e, Profile Times place)
-    ∷ (like_first before e, Profile Unlike place)
-    ∷ (differs before e, Profile Duplicate place)
+-- what an entry is asked, beside the entries before it
+abbrev pub faults : List Entry → Entry → List (Bool × ProfileFault)
+faults before e =
+    (in_range e, UuiRange)
+    ∷ (good_length e, EntryLength)
+    ∷ (aligned e, Width)
+    ∷ (good_times e, Times)
+    ∷ (like_first before e, Unlike)
+    ∷ (differs before e, Duplicate)
     ∷ []
+
+-- the same of the entry at a place
+abbrev pub questions : List Entry → ℕ → Entry → List (Bool × Refusal)
+questions before place e = map (λ q. (q.0, Profile q.1 place)) (faults before e)
 
 -- the refusal of the entries from a place on, which stand after those before
 abbrev pub refusal_from : List Entry → ℕ → List Entry → Option Refusal

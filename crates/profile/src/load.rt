@@ -31,6 +31,7 @@ impl fmt::Display for LoadError {
 
 impl Error for LoadError {}
 
+// (By hand, since a derived conversion has no contract.)
 impl From<Refusal> for LoadError {
     ghost from_gives = { λ refusal error. error ≡ Refused refusal };
 
@@ -68,7 +69,9 @@ fn check_entries(offered: &[Entry]) -> Result<(), Refusal>
         return Err(Refusal::Profile(ProfileFault::EntryCount, 0));
     }
     for (place, entry) in offered.iter().enumerate() {
-        check_entry(&offered[..place], place, *entry)?;
+        if let Err(fault) = check_entry(&offered[..place], *entry) {
+            return Err(Refusal::Profile(fault, place));
+        }
     }
     Ok(())
 }

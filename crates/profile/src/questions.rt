@@ -1,32 +1,32 @@
 // What one offered entry is asked.
 ghost use Rattle.std.specs.Prelude.{◌≡◌};
 ghost use Rattle.refusal.specs.Questions.{allowed, first_no};
-ghost use Rattle.profile.specs.Questions.{width, in_range, good_length, aligned, good_times, like_first, alike, differs, questions};
+ghost use Rattle.profile.specs.Questions.{width, in_range, good_length, aligned, good_times, like_first, alike, differs, faults};
 
 use crate::entry::Entry;
-use refusal::{ProfileFault, Refusal};
+use refusal::ProfileFault;
 
-// Whether an entry at a place passes, beside the entries before it.
-pub(crate) fn check_entry(before: &[Entry], place: usize, entry: Entry) -> Result<(), Refusal>
-    ensures { result ≡ allowed (first_no (questions before.now place entry)) }
+// Whether an entry passes, beside the entries before it.
+pub(crate) fn check_entry(before: &[Entry], entry: Entry) -> Result<(), ProfileFault>
+    ensures { result ≡ allowed (first_no (faults before.now entry)) }
 {
     if !entry.in_range() {
-        return Err(Refusal::Profile(ProfileFault::UuiRange, place));
+        return Err(ProfileFault::UuiRange);
     }
     if !entry.good_length() {
-        return Err(Refusal::Profile(ProfileFault::EntryLength, place));
+        return Err(ProfileFault::EntryLength);
     }
     if !entry.aligned() {
-        return Err(Refusal::Profile(ProfileFault::Width, place));
+        return Err(ProfileFault::Width);
     }
     if !entry.good_times() {
-        return Err(Refusal::Profile(ProfileFault::Times, place));
+        return Err(ProfileFault::Times);
     }
     if !like_first(before, entry) {
-        return Err(Refusal::Profile(ProfileFault::Unlike, place));
+        return Err(ProfileFault::Unlike);
     }
     if !differs(before, entry) {
-        return Err(Refusal::Profile(ProfileFault::Duplicate, place));
+        return Err(ProfileFault::Duplicate);
     }
     Ok(())
 }
@@ -80,10 +80,8 @@ impl Entry {
 fn like_first(before: &[Entry], entry: Entry) -> bool
     ensures { result ≡ like_first before.now entry }
 {
-    match before {
-        [] => true,
-        [first, ..] => entry.width() == first.width() && entry.interval == first.interval,
-    }
+    before.first().is_none_or(|first| entry.width() == first.width()
+        && entry.interval == first.interval)
 }
 
 // Whether no entry before has both the range and the length.

@@ -1,7 +1,8 @@
 -- Questions: either one was answered no, or all were answered yes. Assumes nothing.
-use Rattle.std.proofs.Common.{◌≡◌, ℕ, Bool, true, false, cond, List, [], ◌∷◌, Ok, Err, Some, None, Option, Result, sym, refl, ap, ◌∙◌, subst, arith}
+use Rattle.std.proofs.Common.{◌≡◌, ℕ, Bool, true, false, cond, List, [], ◌∷◌, map, Ok, Err, Some, None, Option, Result, sym, refl, ap, ◌∙◌, subst, arith}
 use Rattle.std.specs.List.{AllByRecursion}
-use Rattle.refusal.specs.Questions.{asked, allowed}
+use Rattle.std.specs.Option.{option_map}
+use Rattle.refusal.specs.Questions.{asked, first_no, allowed}
 
 -- each is answered yes
 abbrev pub Yes : {X : Type 0} → List (Bool × X) → Type 0
@@ -56,6 +57,10 @@ module _ {F T : Type 0} (So : F → Type 0) (f : F) where
 
 -- a test by its answer
 module _ {F : Type 0} where
+  map_one : {G : Type 0} (make : F → G) (b : Bool) (x : F) (o : Option F) (p : Option G) → p ≡ option_map make o → cond b p (Some (make x)) ≡ option_map make (cond b o (Some x))
+  map_one make true x o p e = e
+  map_one make false x o p e = refl
+
   pub allowed_err : (o : Option F) (f : F) → allowed o ≡ Err f → o ≡ Some f
   allowed_err None f e = let z : ◌≡◌ {A = ℕ} 0 1 = cc in absurd (omega arith)
   allowed_err (Some x) f e = let i : x ≡ f = cc in ap (λ y. Some y) i
@@ -63,3 +68,8 @@ module _ {F : Type 0} where
   pub allowed_ok : (o : Option F) → allowed o ≡ Ok tt → o ≡ None
   allowed_ok None e = refl
   allowed_ok (Some x) e = let z : ◌≡◌ {A = ℕ} 0 1 = cc in absurd (omega arith)
+
+  -- the refusals made of the questions' own
+  pub first_no_map : {G : Type 0} (make : F → G) (qs : List (Bool × F)) → first_no (map (λ q. (q.0, make q.1)) qs) ≡ option_map make (first_no qs)
+  first_no_map make [] = refl
+  first_no_map make (q ∷ qs) = map_one make q.0 q.1 (first_no qs) _ (first_no_map make qs)

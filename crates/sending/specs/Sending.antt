@@ -20,6 +20,11 @@ pub record Stream (M : Type 0) : Type 0 where
   pub refresh : Option ℕ
   pub refreshed : Option ℕ
 
+-- the time of the latest event is in the range of times
+abbrev pub event_in_range : {M : Type 0} → Option (Event M) → Bool
+event_in_range None = true
+event_in_range (Some e) = is_time e.time
+
 -- later than another time, if there is one
 abbrev pub later : Option ℕ → ℕ → Bool
 later None t = true

@@ -45,9 +45,8 @@ impl AudioSender {
         ensures after { self.new ≡ (audio profile.now self.old time place (length payload.now)).1 }
     {
         let time = Time::new(time).ok_or(SendingFault::TimeOutOfRange)?.get();
-        let (Some(entry), Some(uui)) = (profile.entry(place), profile.label(place, time)) else {
-            return Err(SendingFault::NoEntry.into());
-        };
+        let entry = profile.entry(place).ok_or(SendingFault::NoEntry)?;
+        let uui = profile.label(place, time).ok_or(SendingFault::NoEntry)?;
         self.check(time, payload.len(), entry)?;
         self.free = time + u64::from(entry.packet_time);
         Ok(uui)

@@ -1,7 +1,7 @@
 // The calls on a message stream.
-ghost use Rattle.std.specs.Prelude.{◌≡◌, length};
+ghost use Rattle.std.specs.Prelude.{◌≡◌, true, length};
 ghost use Rattle.refusal.specs.Questions.{first_no, allowed};
-ghost use Rattle.sending.specs.Sending.{new_sender, event_questions, event, due_of, due_questions, next_refresh, after_packet, due};
+ghost use Rattle.sending.specs.Sending.{new_sender, event_in_range, event_questions, event, due_of, due_questions, next_refresh, after_packet, due};
 ghost use Rattle.sending.specs.Runs.{SendsLawfully, KeepsItsMoments};
 ghost use Rattle.sending.specs.Answered.{counted, put};
 
@@ -32,8 +32,11 @@ impl<K: Kind> Sender<K> {
     pub fn event(&mut self, time: u64, message: K::Message) -> Result<(), Refusal>
         ensures value { result ≡ (event self.old time message).0 }
         ensures after { self.new ≡ (event self.old time message).1 }
+        ensures in_range { event_in_range self.new.latest ≡ true }
         ensures lawful { SendsLawfully K.Kind.model }
     {
+        // what the type keeps is known on every way out
+        let _ = &self.latest;
         let time = Time::new(time).ok_or(SendingFault::TimeOutOfRange)?;
         self.check_event(time)?;
         self.clock = time.get();
@@ -63,14 +66,18 @@ impl<K: Kind> Sender<K> {
     }
 
     // What is due at a time: the first unsent packet whose moment has come is written to the start of `out`, and its length
-    // is answered. Called at every millisecond after an event, it sends each packet at its moment.
+    // is answered. Called at every millisecond after an event, it sends each packet at its moment. (The caller lends the buffer:
+    // nothing in service allocates.)
     #[tactic(auto, using(crate::proofs::Milliseconds::keeps_its_moments))]
     pub fn due(&mut self, time: u64, out: &mut [u8]) -> Result<Option<usize>, Refusal>
         ensures value { result ≡ counted (due K.Kind.model self.old time (length out.old)).0 }
         ensures after { self.new ≡ (due K.Kind.model self.old time (length out.old)).1 }
         ensures octets { out.new ≡ put out.old (due K.Kind.model self.old time (length out.old)).0 }
+        ensures in_range { event_in_range self.new.latest ≡ true }
         ensures moments { KeepsItsMoments K.Kind.model }
     {
+        // what the type keeps is known on every way out
+        let _ = &self.latest;
         let time = Time::new(time).ok_or(SendingFault::TimeOutOfRange)?;
         self.check_due(time, out.len())?;
         let Some(packet) = self.packet(time) else {

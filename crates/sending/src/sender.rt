@@ -22,9 +22,12 @@ pub struct Sender<K: Kind> {
 }
 
 impl<K: Kind> Model for Sender<K> {
-    ghost use Rattle.sending.specs.Sending.{Stream};
+    ghost use Rattle.std.specs.Prelude.{◌≡◌, true};
+    ghost use Rattle.sending.specs.Sending.{Stream, event_in_range};
 
     ghost Value = { Stream K.Message };
 
     ghost view = { λ s. record { clock = s.clock; latest = s.latest; copies = s.next; refresh = s.refresh; refreshed = s.refreshed } };
+
+    ghost invariant = { λ s. event_in_range s.latest ≡ true };
 }

@@ -5,6 +5,7 @@ use examples::written::Written;
 use refusal::Refusal;
 use std::fmt;
 
+// A refusal is an answer here, and no error of the program.
 #[derive(Drop)]
 pub enum Answer {
     // all streams are new

@@ -1,5 +1,7 @@
 // The audio stream under one of the example profiles.
-ghost use Rattle.std.specs.Prelude.{◌≡◌};
+ghost use Rattle.std.specs.Prelude.{◌≡◌, MatchResult};
+ghost use Rattle.profile.specs.Examples.{entries_of};
+ghost use Rattle.profile.specs.declared.load.LoadError.TheVariants.{Memory};
 ghost use Rattle.sending.specs.Audio.{audio};
 ghost use Rattle.timing.specs.Answers.{to_audio};
 
@@ -18,7 +20,9 @@ pub struct Audio {
 
 impl Audio {
     // A new stream under an example.
-    pub fn new(heap: Global, example: Example) -> Result<Audio, LoadError> {
+    pub fn new(heap: Global, example: Example) -> Result<Audio, LoadError>
+        ensures { MatchResult result (λ a. (a.profile ≡ entries_of example) × (a.sender ≡ 0)) (λ e. e ≡ Memory) }
+    {
         Ok(Audio {
             profile: example.load(heap)?,
             sender: AudioSender::new(),

@@ -44,8 +44,5 @@ pub fn answer_due<K: Kind>(sender: &mut Sender<K>, time: u64, room: Room) -> Ans
 fn count_of(told: Result<Option<usize>, Refusal>) -> usize
     ensures { result ≡ count told }
 {
-    match told {
-        Ok(Some(count)) => count,
-        Ok(None) | Err(_) => 0,
-    }
+    told.ok().flatten().unwrap_or(0)
 }

@@ -1,4 +1,5 @@
-// The length of a buffer, up to 16 octets.
+// The length of a buffer, up to 16 octets. (It has a ghost field, and no model: a match on an enum that holds a struct with a
+// model gets no proof today.)
 ghost use Rattle.std.specs.Prelude.{◌≡◌, true, Some, None, if◌then◌else◌, nat_le};
 ghost use Rattle.std.specs.Option.{option_map};
 

@@ -44,10 +44,10 @@ impl Streams {
                 time,
                 place,
                 length,
-            } => match &mut self.audio {
-                Some(audio) => Ok(audio.answer(time, place, length)),
-                None => Ok(Answer::BadLine),
-            },
+            } => {
+                let audio = self.audio.as_mut();
+                Ok(audio.map_or(Answer::BadLine, |audio| audio.answer(time, place, length)))
+            }
             Call::Digit(time, Ok(digit)) => Ok(answer_event(&mut self.digits, time, digit)),
             Call::Digit(_, Err(refusal)) => Ok(Answer::Refused(refusal)),
             Call::Cas(time, bits) => Ok(answer_event(&mut self.cas, time, bits)),

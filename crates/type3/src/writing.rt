@@ -8,13 +8,9 @@ use crate::payload::Payload;
 use crc10::crc_of;
 use refusal::{Refusal, SendingFault};
 
-<<<<<<< ours
 // Writes the payload at the start of `out`, and answers how long it is. (The caller lends the buffer: nothing in service
 // allocates.)
-=======
-// Writes the payload at the start of `out`, and answers how long it is.
 #[tactic(auto, using(crate::proofs::Values::no_two_alike))]
->>>>>>> theirs
 pub fn write_payload<K: Kind>(
     payload: Payload<K::Message>,
     out: &mut [u8],

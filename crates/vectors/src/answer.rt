@@ -9,6 +9,7 @@ use refusal::Refusal;
 use std::fmt;
 use type3::payload::Payload;
 
+// A refusal is an answer here, and no error of the program.
 #[derive(Drop)]
 pub enum Answer {
     Octets(Written<12>),

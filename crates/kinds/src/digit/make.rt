@@ -2,7 +2,7 @@
 ghost use Rattle.std.specs.Prelude.{◌≡◌};
 ghost use Rattle.kinds.specs.Digits.{digit_in, level_of, make, make_key};
 
-use super::{Digit, has};
+use super::Digit;
 use crate::keys::key_code;
 use crate::system::System;
 use refusal::{KindFault, Refusal};
@@ -29,7 +29,7 @@ impl Digit {
     pub(crate) fn of_parts(level: u8, system: System, code: u8) -> Option<Digit>
         ensures { result ≡ digit_in level system code }
     {
-        if level < 32 && has(system, code) {
+        if level < 32 && system.has(code) {
             Some(Digit {
                 level,
                 system,
@@ -45,11 +45,5 @@ impl Digit {
 pub fn level_of(dbm0: i8) -> u8
     ensures { result ≡ level_of dbm0 }
 {
-    if dbm0 >= 0 {
-        0
-    } else if dbm0 <= -31 {
-        31
-    } else {
-        dbm0.unsigned_abs()
-    }
+    dbm0.clamp(-31, 0).unsigned_abs()
 }
