@@ -29,7 +29,7 @@ fn octet_of(pair: &[u8]) -> Option<u8>
     Some(high * 16 + low)
 }
 
-// The octets of a text of two digits for each, or of `-` for none.
+// The octets of a text of two digits for each, or of `-` for none. (No `FromStr`: it takes an allocator.)
 pub fn octets_of(heap: Global, text: &str) -> Result<Option<Vec<u8>>, AllocError> {
     match text {
         "" => Ok(None),

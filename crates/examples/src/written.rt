@@ -1,4 +1,5 @@
-// The first octets of a buffer. In contracts it is the list of them.
+// The first octets of a buffer. In contracts it is the list of them. (A buffer and a length, and no `Vec`, so that no function
+// fails for want of memory.)
 ghost use Rattle.std.specs.Prelude.{◌≡◌, take};
 
 use std::marker::Model;

@@ -10,7 +10,8 @@ pub mod make;
 // The code that ends a tone, of every type. (Codes are numbers, since each type has its own.)
 pub const TONE_OFF: u8 = 31;
 
-// The level is in dB below 1 mW, 0 to 31. No digit exists whose code its type lacks.
+// The level is in dB below 1 mW, 0 to 31. No digit exists whose code its type lacks. (Its value holds the proofs of that, and is
+// no model, since the laws of a kind speak of every message.)
 #[derive(Clone, Copy, Debug, PartialEq, Eq)]
 pub struct Digit {
     level: u8,

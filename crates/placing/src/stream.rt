@@ -10,7 +10,7 @@ use refusal::times::{Time, is_time};
 use refusal::{PlacingFault, Refusal};
 use std::marker::Model;
 
-// The latest news of a stream: its label, when it arrived, and the time since the first news.
+// The latest news of a stream: its label, when it arrived, and the time since the first news. (Numbers, as a host reads them.)
 #[derive(Clone, Copy, Debug, PartialEq, Eq)]
 pub struct Placed {
     pub label: u16,

@@ -1,5 +1,5 @@
 -- Questions: either one was answered no, or all were answered yes. Assumes nothing.
-use Rattle.std.proofs.Common.{◌≡◌, ℕ, Bool, true, false, cond, List, [], ◌∷◌, map, Ok, Err, Some, None, Option, Result, sym, refl, ap, ◌∙◌, subst, arith}
+use Rattle.std.proofs.Common.{◌≡◌, Bool, true, false, cond, List, [], ◌∷◌, map, Ok, Err, Some, None, Option, Result, sym, refl, ap, ◌∙◌, subst}
 use Rattle.std.specs.List.{AllByRecursion}
 use Rattle.std.specs.Option.{option_map}
 use Rattle.refusal.specs.Questions.{asked, first_no, allowed}
@@ -42,7 +42,7 @@ module _ {F T U : Type 0} (f : F) where
   one false x r s rest e = let i : x ≡ f = cc in ap (λ y. Err y) i
 
   pub refused_alike : (qs : List (Bool × F)) (t : T) (does : Result U F) → asked {Y = Result T F} qs (λ x. Err x) (Ok t) ≡ Err f → asked {Y = Result U F} qs (λ x. Err x) does ≡ Err f
-  refused_alike [] t does e = let z : ◌≡◌ {A = ℕ} 0 1 = cc in absurd (omega arith)
+  refused_alike [] t does e = cc
   refused_alike (q ∷ qs) t does e = one q.0 q.1 (asked qs (λ x. Err x) (Ok t)) (asked qs (λ x. Err x) does) (refused_alike qs t does) e
 
 -- what is so of the refusals of all questions, and of the call's own, is so of the refusal that is given
@@ -62,12 +62,12 @@ module _ {F : Type 0} where
   map_one make false x o p e = refl
 
   pub allowed_err : (o : Option F) (f : F) → allowed o ≡ Err f → o ≡ Some f
-  allowed_err None f e = let z : ◌≡◌ {A = ℕ} 0 1 = cc in absurd (omega arith)
+  allowed_err None f e = cc
   allowed_err (Some x) f e = let i : x ≡ f = cc in ap (λ y. Some y) i
 
   pub allowed_ok : (o : Option F) → allowed o ≡ Ok tt → o ≡ None
   allowed_ok None e = refl
-  allowed_ok (Some x) e = let z : ◌≡◌ {A = ℕ} 0 1 = cc in absurd (omega arith)
+  allowed_ok (Some x) e = cc
 
   -- the refusals made of the questions' own
   pub first_no_map : {G : Type 0} (make : F → G) (qs : List (Bool × F)) → first_no (map (λ q. (q.0, make q.1)) qs) ≡ option_map make (first_no qs)

@@ -52,6 +52,7 @@ impl AudioSender {
         Ok(uui)
     }
 
+    // (What it asks of the entry, `Profile::entry` tells.)
     fn check(&self, time: u64, length: usize, entry: Entry) -> Result<(), Refusal>
         requires { 1 ≤ entry.interval }
         ensures { result ≡ allowed (first_no (audio_questions self.now time length entry)) }

@@ -29,7 +29,7 @@ pub fn write_payload<K: Kind>(
     Ok(n)
 }
 
-// Writes the payload with this check.
+// Writes the payload with this check. (What it asks is asked here alone.)
 #[tactic(auto, using(crate::proofs::Writes::frame_is))]
 fn frame<K: Kind>(payload: &Payload<K::Message>, check: u16, out: &mut [u8])
     requires check { check < 1024 }

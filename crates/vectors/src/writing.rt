@@ -29,7 +29,7 @@ enum Message {
 }
 
 impl Asked {
-    // `None` where a word is not what it is to be.
+    // `None` where a word is not what it is to be. (Words are parsed here, and decide nothing later.)
     pub fn of(kind: &str, words: &[&str]) -> Option<Asked> {
         let [redundancy, stamp, words @ ..] = words else {
             return None;
