@@ -50,7 +50,7 @@ module _ {P Q : Type 0} (p : Meaning P) (q : Meaning Q) (s : End P Q) (a uui : â
   by_ways None false r (Some i) = ins_so _ _ _ _
 
   arrive_so : So (trunk.arrive p q s a uui o).1
-  arrive_so = by_ways (first_no (arrive_questions p q s a uui)) (eqb uui 24) (read_either p q o) (find s.profile uui (length o))
+  arrive_so = by_ways (first_no (arrive_questions s a uui)) (eqb uui 24) (read_either p q o) (find s.profile uui (length o))
 
 module _ {P Q : Type 0} {p : Meaning P} {q : Meaning Q} {es : List Entry} (ok : Agreed p q es) where
   -- ---- every arrival is answered rightly

@@ -123,6 +123,14 @@ module _ {P Q : Type 0} where
       let r = place (span_of s.profile) (interval_of s.profile) s.audio_in uui a in
       (audio_answer i r.0, with_ins s (clock_after s a r.0) r.1 s.first_in s.second_in)
 
+  -- what every arrival is asked
+  abbrev pub arrive_questions : End P Q → ℕ → ℕ → List (Bool × Refusal)
+  arrive_questions s a uui =
+      (is_time a, Arrival TimeOutOfRange)
+      ∷ (nat_le s.clock a, Arrival RunsBack)
+      ∷ (nat_le uui 15 || (uui == 24), Arrival UnknownUui)
+      ∷ []
+
   module _ (p : Meaning P) (q : Meaning Q) where
     -- a type 3 packet, by what is read from it
     abbrev pub arrive_read : End P Q → ℕ → Result (Either (Payload P) (Payload Q)) Refusal → Result (Arrived P Q) Refusal × End P Q
@@ -133,13 +141,6 @@ module _ {P Q : Type 0} where
     arrive_read s a (Ok (Second x)) =
         let r = receive q s.second_in a x in
         (second_answer r.0, with_ins s (clock_after s a r.0) s.audio_in s.first_in r.1)
-
-    abbrev pub arrive_questions : End P Q → ℕ → ℕ → List (Bool × Refusal)
-    arrive_questions s a uui =
-        (is_time a, Arrival TimeOutOfRange)
-        ∷ (nat_le s.clock a, Arrival RunsBack)
-        ∷ (nat_le uui 15 || (uui == 24), Arrival UnknownUui)
-        ∷ []
 
     -- a packet that arrives at a time
     abbrev pub arrive : End P Q → ℕ → ℕ → List ℕ → Result (Arrived P Q) Refusal × End P Q

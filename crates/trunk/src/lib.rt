@@ -2,3 +2,7 @@
 #![tactic(auto)]
 
 pub mod answer;
+pub mod arrive;
+pub mod send;
+pub mod service;
+pub mod set_up;

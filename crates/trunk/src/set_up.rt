@@ -1,0 +1,71 @@
+// An end in set-up.
+ghost use Rattle.std.specs.Prelude.{◌≡◌, MatchResult};
+ghost use Rattle.profile.specs.Examples.{entries_of};
+ghost use Rattle.profile.specs.declared.examples.Example.TheVariants.{A};
+ghost use Rattle.profile.specs.declared.load.LoadError.TheVariants.{Memory};
+ghost use Rattle.trunk.specs.End.{started};
+ghost use Rattle.trunk.specs.SettingUp.{loaded, Loads};
+
+use crate::service::InService;
+use placing::receiver::Receiver;
+use placing::stream::Stream;
+use profile::entry::Entry;
+use profile::examples::Example;
+use profile::load::LoadError;
+use profile::profile::Profile;
+use sending::audio::AudioSender;
+use sending::sender::Sender;
+use std::alloc::Global;
+use std::marker::Model;
+use type3::kind::Kind;
+
+// It holds the profile with which it will start. In contracts it is that profile.
+#[derive(Drop)]
+pub struct SetUp {
+    pub(crate) profile: Profile,
+}
+
+impl Model for SetUp {
+    ghost use Rattle.std.specs.Prelude.{List};
+    ghost use Rattle.profile.specs.declared.entry.Entry.{Entry};
+
+    ghost Value = { List Entry };
+
+    ghost view = { λ s. s.profile };
+}
+
+impl SetUp {
+    // A new end holds example profile A.
+    pub fn new(heap: Global) -> Result<SetUp, LoadError>
+        ensures { MatchResult result (λ s. s ≡ entries_of A) (λ e. e ≡ Memory) }
+    {
+        Ok(SetUp {
+            profile: Example::A.load(heap)?,
+        })
+    }
+
+    // The profile becomes that of the offered entries, if they pass every question.
+    pub fn load(&mut self, heap: Global, offered: &[Entry]) -> Result<(), LoadError>
+        ensures value { Loads offered.now result }
+        ensures after { self.new ≡ loaded offered.now self.old result }
+    {
+        self.profile = Profile::load(heap, offered)?;
+        Ok(())
+    }
+
+    // The end in service, over two kinds, with nothing sent and nothing received.
+    pub fn start<P: Kind, Q: Kind>(self) -> InService<P, Q>
+        ensures { result ≡ started self }
+    {
+        InService {
+            profile: self.profile,
+            audio_out: AudioSender::new(),
+            first_out: Sender::<P>::new(),
+            second_out: Sender::<Q>::new(),
+            clock: 0,
+            audio_in: Stream::new(),
+            first_in: Receiver::<P>::new(),
+            second_in: Receiver::<Q>::new(),
+        }
+    }
+}
