@@ -8,4 +8,3 @@ pub mod refused;
 #[cfg(test)]
 mod tests;
 pub mod wide;
-pub mod written;

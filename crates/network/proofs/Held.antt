@@ -18,7 +18,7 @@ use Rattle.trunk.specs.End.{End, started, with_outs, with_ins, arrive_audio, arr
 use Rattle.network.specs.declared.side.Side.{Side}
 use Rattle.network.specs.Names.{other, same_side, same_kind, kind_of, Stream, messages, same_stream}
 use Rattle.network.specs.Names as name
-use Rattle.network.specs.Runs.{Call, audio, event, due, arrive, Answer, Moment, Ends, end_at}
+use Rattle.network.specs.Runs.{Call, audio, event, due, arrive, AnswerTo, Moment, Ends, end_at}
 use Rattle.network.specs.Packets.{entry, Packet, Arrival, stream_of, accepted, events, made, made_at, packet_from, arrival_by, arrival}
 use Rattle.network.specs.Law.{sound, sounds, sound_if}
 use Rattle.network.proofs.Sameness.{itself, kind_itself}
@@ -41,7 +41,7 @@ module _ {P Q : Type 0} where
   none_if b n h m x (Some k) f = grind (arith, common_steps)
 
   -- nor does a call there bring one
-  none_by : (b : Side) (n : Stream) (h : List (Moment P Q)) (m : Moment P Q) (side : Side) (c : Call P Q) (r : Answer c) → same_side b side ≡ false
+  none_by : (b : Side) (n : Stream) (h : List (Moment P Q)) (m : Moment P Q) (side : Side) (c : Call P Q) (r : AnswerTo c) → same_side b side ≡ false
       → those (on_it h m b n) (add (option_flatten (option_map (sound h) (arrival_by side c r))) []) ≡ []
   none_by b n h m side (arrive t u o i) r f = rw (arrives side t u o i r) (none_if b n h m (arriving side t u o i (news_of r)) (packet_from (other side) h i) f)
   none_by b n h m side c r f = refl

@@ -14,7 +14,7 @@ use Rattle.trunk.specs.declared.answer.Arrived.TheVariants as on
 use Rattle.network.specs.declared.side.Side.{Side}
 use Rattle.network.specs.Names as name
 use Rattle.network.specs.Names.{same_side, same_kind, kind_of, Stream, messages}
-use Rattle.network.specs.Runs.{Call, audio, event, due, arrive, Answer, Moment}
+use Rattle.network.specs.Runs.{Call, audio, event, due, arrive, AnswerTo, Moment}
 
 -- what a packet carries: audio under the entry at a place, or a message
 pub data Content (P Q : Type 0) : Type 0 where
@@ -46,7 +46,7 @@ module _ {P Q : Type 0} where
   -- ---- events, and what a side had
 
   -- the event that a call brought, if it was accepted
-  abbrev pub accepted : (c : Call P Q) → Answer c → Option (Event (Either P Q))
+  abbrev pub accepted : (c : Call P Q) → AnswerTo c → Option (Event (Either P Q))
   accepted (event t m) (Ok x) = Some (record { time = t; message = m })
   accepted (event t m) (Err f) = None
   accepted (audio t place payload) r = None
@@ -70,7 +70,7 @@ module _ {P Q : Type 0} where
   of_event t o e = record { time = cond (redundancy_in o == 3) t e.time; content = message e.message; uui = 24; octets = o }
 
   -- the packet that a call made, if it made one: of audio, or of the latest event before it
-  abbrev pub made : List (Moment P Q) → Side → (c : Call P Q) → Answer c → Option (Packet P Q)
+  abbrev pub made : List (Moment P Q) → Side → (c : Call P Q) → AnswerTo c → Option (Packet P Q)
   made before side (audio t place payload) (Ok uui) = Some (record { time = t; content = entry place; uui = uui; octets = payload })
   made before side (audio t place payload) (Err f) = None
   made before side (due which t room) (Ok (Some o)) = option_map (of_event t o) (greatest (λ e. e.time) (events side which before))
@@ -106,7 +106,7 @@ module _ {P Q : Type 0} where
   named (on.Second Repeat) = None
   named (on.Second Late) = None
 
-  abbrev pub arrival_by : Side → (c : Call P Q) → Answer c → Option (Arrival P Q)
+  abbrev pub arrival_by : Side → (c : Call P Q) → AnswerTo c → Option (Arrival P Q)
   arrival_by side (arrive t uui o copies) (Ok x) = Some (record { side = side; time = t; uui = uui; octets = o; copies = copies; news = named x })
   arrival_by side (arrive t uui o copies) (Err f) = Some (record { side = side; time = t; uui = uui; octets = o; copies = copies; news = None })
   arrival_by side (audio t place payload) r = None

@@ -26,8 +26,8 @@ Says (event t m) = Unit {0}
 Says (due which t room) = Option (List ℕ)
 Says {P} {Q} (arrive t uui octets copies) = Arrived P Q
 
-abbrev pub Answer : {P Q : Type 0} → Call P Q → Type 0
-Answer c = Result (Says c) Refusal
+abbrev pub AnswerTo : {P Q : Type 0} → Call P Q → Type 0
+AnswerTo c = Result (Says c) Refusal
 
 -- a call at a side
 pub record Turn (P Q : Type 0) : Type 0 where
@@ -38,7 +38,7 @@ pub record Turn (P Q : Type 0) : Type 0 where
 pub record Moment (P Q : Type 0) : Type 0 where
   pub side : Side
   pub call : Call P Q
-  pub answer : Answer call
+  pub answer : AnswerTo call
 
 pub record Ends (P Q : Type 0) : Type 0 where
   pub near : End P Q
@@ -59,7 +59,7 @@ module _ {P Q : Type 0} where
 
   module _ (p : Meaning P) (q : Meaning Q) where
     -- a call on its end
-    abbrev pub done : End P Q → (c : Call P Q) → Answer c × End P Q
+    abbrev pub done : End P Q → (c : Call P Q) → AnswerTo c × End P Q
     done s (audio t place payload) = trunk.audio s t place (length payload)
     done s (event t m) = trunk.event s t m
     done s (due which t room) = trunk.due p q s which t room

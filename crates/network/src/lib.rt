@@ -2,4 +2,5 @@
 #![tactic(auto)]
 
 pub mod law;
+pub mod run;
 pub mod side;

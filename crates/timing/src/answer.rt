@@ -1,7 +1,7 @@
 // What a call is answered, in one line.
 use examples::hex::Hex;
 use examples::refused::Refused;
-use examples::written::Written;
+use type3::written::Written;
 use refusal::Refusal;
 use std::fmt;
 

@@ -5,7 +5,7 @@ ghost use Rattle.timing.specs.Answers.{to_event, count};
 
 use crate::answer::Answer;
 use crate::room::Room;
-use examples::written::Written;
+use type3::written::Written;
 use refusal::Refusal;
 use sending::sender::Sender;
 use type3::kind::Kind;

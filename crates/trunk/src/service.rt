@@ -27,6 +27,8 @@ pub struct InService<P: Kind, Q: Kind> {
 }
 
 impl<P: Kind, Q: Kind> Model for InService<P, Q> {
+    ghost use Rattle.std.specs.Prelude.{◌≡◌, false, is_some};
+    ghost use Rattle.profile.specs.Questions.{refusal};
     ghost use Rattle.trunk.specs.End.{End};
 
     ghost Value = { End P.Message Q.Message };

@@ -1,7 +1,8 @@
 // An end in set-up.
-ghost use Rattle.std.specs.Prelude.{◌≡◌, MatchResult};
+ghost use Rattle.std.specs.Prelude.{◌≡◌, false, is_some, MatchResult};
 ghost use Rattle.profile.specs.Examples.{entries_of};
 ghost use Rattle.profile.specs.declared.examples.Example.TheVariants.{A};
+ghost use Rattle.profile.specs.Questions.{refusal};
 ghost use Rattle.profile.specs.declared.load.LoadError.TheVariants.{Memory};
 ghost use Rattle.trunk.specs.End.{started};
 ghost use Rattle.trunk.specs.SettingUp.{loaded, Loads};
@@ -26,12 +27,15 @@ pub struct SetUp {
 }
 
 impl Model for SetUp {
-    ghost use Rattle.std.specs.Prelude.{List};
+    ghost use Rattle.std.specs.Prelude.{◌≡◌, List, false, is_some};
     ghost use Rattle.profile.specs.declared.entry.Entry.{Entry};
+    ghost use Rattle.profile.specs.Questions.{refusal};
 
     ghost Value = { List Entry };
 
     ghost view = { λ s. s.profile };
+
+    ghost invariant = { λ s. is_some (refusal s.profile) ≡ false };
 }
 
 impl SetUp {
@@ -55,7 +59,8 @@ impl SetUp {
 
     // The end in service, over two kinds, with nothing sent and nothing received.
     pub fn start<P: Kind, Q: Kind>(self) -> InService<P, Q>
-        ensures { result ≡ started self }
+        ensures value { result ≡ started self }
+        ensures sound { is_some (refusal self) ≡ false }
     {
         InService {
             profile: self.profile,

@@ -6,3 +6,4 @@ pub mod kind;
 pub mod payload;
 pub mod reading;
 pub mod writing;
+pub mod written;

@@ -2,7 +2,7 @@
 use examples::hex::Hex;
 use examples::refused::Refused;
 use examples::wide::Mark;
-use examples::written::Written;
+use type3::written::Written;
 use kinds::cas::CasBits;
 use kinds::digit::Digit;
 use refusal::Refusal;

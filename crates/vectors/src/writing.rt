@@ -2,7 +2,7 @@
 use crate::answer::Answer;
 use examples::bits::bits_of;
 use examples::wide::{Mark, Wide};
-use examples::written::Written;
+use type3::written::Written;
 use kinds::cas::{Cas, CasBits};
 use kinds::digit::Digit;
 use kinds::digits::Digits;
