@@ -8,7 +8,7 @@ use Rattle.trunk.specs.declared.answer.Which.{Which}
 use Rattle.trunk.specs.End.{force}
 use Rattle.network.specs.declared.side.Side.{Side}
 use Rattle.network.specs.Names.{other, messages}
-use Rattle.network.specs.Runs.{Turn, Moment, Ends, both, end_at, taken, moment, after, history}
+use Rattle.network.specs.Runs.{Turn, Moment, Ends, begun, end_at, taken, moment, after, history}
 use Rattle.network.specs.Packets.{Named, Arrival, had, arrival}
 use Rattle.network.specs.Law.{Sound, Origin, sound, sounds, latest_news, later_than_all, test_of, each_arrival, carried, aged, ToldRightly}
 
@@ -26,7 +26,7 @@ module _ {P Q : Type 0} where
 
   -- Something is kept: it holds at the start, each call keeps it and is answered rightly, and what is in force is right.
   pub record Keeps (p : Meaning P) (q : Meaning Q) (es : List Entry) (Held : List (Moment P Q) → Ends P Q → Type 0) : Type 0 where
-    pub start : Held [] (both es)
+    pub start : Held [] (begun es es)
     pub right : (h : List (Moment P Q)) (w : Ends P Q) (x : Turn P Q) → Held h w → (y : Arrival P Q) → arrival (moment p q w x) ≡ Some y
         → carried h y ≡ true → aged es h y ≡ true → Right h y
     pub next : (h : List (Moment P Q)) (w : Ends P Q) (x : Turn P Q) → Held h w → test_of (carried h) (arrival (moment p q w x)) ≡ true
@@ -56,13 +56,13 @@ module _ {P Q : Type 0} where
           held = rw (← append_assoc h (m ∷ []) (history p q (taken p q w x) xs)) more.held;
         }
 
-    pub told_rightly : (calls : List (Turn P Q)) → each_arrival carried (history p q (both es) calls) ≡ true
-        → each_arrival (aged es) (history p q (both es) calls) ≡ true
-        → ToldRightly (history p q (both es) calls) (λ side which. force (end_at (after p q (both es) calls) side) which)
+    pub told_rightly : (calls : List (Turn P Q)) → each_arrival carried (history p q (begun es es) calls) ≡ true
+        → each_arrival (aged es) (history p q (begun es es) calls) ≡ true
+        → ToldRightly (history p q (begun es es) calls) (λ side which. force (end_at (after p q (begun es es) calls) side) which)
     told_rightly calls c a =
-        let r = rest calls [] (both es) k.start c a in
+        let r = rest calls [] (begun es es) k.start c a in
         record {
           news_exactly_when_later = r.exactly;
           news_names_its_origin = r.origin;
-          in_force_is_what_the_far_end_had = k.forced (history p q (both es) calls) (after p q (both es) calls) r.held;
+          in_force_is_what_the_far_end_had = k.forced (history p q (begun es es) calls) (after p q (begun es es) calls) r.held;
         }

@@ -10,6 +10,7 @@ use Rattle.type3.specs.declared.payload.Payload.{Payload}
 use Rattle.type3.specs.declared.payload.Either.{Either}
 use Rattle.type3.specs.declared.payload.Either.TheVariants as either
 use Rattle.profile.specs.declared.entry.Entry.{Entry}
+use Rattle.profile.specs.Questions.{refusal}
 use Rattle.profile.specs.Labels.{find}
 use Rattle.placing.specs.declared.stream.Placed.{Placed}
 use Rattle.placing.specs.Receiving.{Inbound}
@@ -22,9 +23,9 @@ use Rattle.trunk.specs.End.{End, with_ins, force, arrive_audio, arrive_read, arr
 use Rattle.network.specs.declared.side.Side.{Side}
 use Rattle.network.specs.declared.side.Side.TheVariants.{Near, Far}
 use Rattle.network.specs.Names.{other, messages}
-use Rattle.network.specs.Runs.{Call, audio, event, due, arrive, Moment, Ends, both, end_at, with_end, done}
+use Rattle.network.specs.Runs.{Call, audio, event, due, arrive, Turn, Moment, Ends, begun, end_at, with_end, after, history, done}
 use Rattle.network.specs.Packets.{Content, entry, message, Packet, Named, Arrival, stream_of, had, packet_from, arrival}
-use Rattle.network.specs.Law.{Sound, sounds, intact, spoiled, foreign, copied, carried, aged, test_of, latest_news, Law}
+use Rattle.network.specs.Law.{Sound, sounds, intact, spoiled, foreign, copied, carried, aged, test_of, latest_news, each_arrival, ToldRightly, Law}
 use Rattle.network.proofs.Sameness.{itself}
 use Rattle.network.proofs.Frame.{Right, Forced, Keeps, told_rightly}
 use Rattle.network.proofs.Sends.{Sends, idle}
@@ -169,12 +170,16 @@ module _ {P Q : Type 0} {p : Meaning P} {q : Meaning Q} {es : List Entry} (ok : 
 
   keeps : Keeps p q es (Held p q es)
   keeps = record {
-    start = λ a. elim a as (λ b. HeldAt p q es [] b (end_at (both es) b)) [ Near ↦ new_held p q es Near | Far ↦ new_held p q es Far ];
+    start = λ a. elim a as (λ b. HeldAt p q es [] b (end_at (begun es es) b)) [ Near ↦ new_held p q es Near | Far ↦ new_held p q es Far ];
     right = λ h w x held y e c a. tells h w held x.side x.call ((rw e c), (rw e a)) y e;
     next = λ h w x held c a. goes_on h w held x.side x.call (c, a);
     forced = forced;
   }
 
--- for every two lawful kinds
-pub the_law : {P Q : Type 0} (p : Meaning P) (q : Meaning Q) → Lawful p → Lawful q → Law p q
-the_law p q lp lq ne es loads calls rule ages = told_rightly p q es (Held p q es) (keeps (record { first = lp; second = lq; apart = ne; loads = ap is_some loads })) calls rule ages
+-- for every two lawful kinds, a profile that loads, and every list of calls
+pub the_law : {P Q : Type 0} (p : Meaning P) (q : Meaning Q) → Lawful p → Lawful q → (near far : List Entry) → is_some (refusal near) ≡ false
+    → (calls : List (Turn P Q)) → Law p q near far calls (after p q (begun near far) calls)
+the_law p q lp lq near far loads calls ne same =
+    subst (λ es. each_arrival carried (history p q (begun near es) calls) ≡ true → each_arrival (aged near) (history p q (begun near es) calls) ≡ true
+    → ToldRightly (history p q (begun near es) calls) (λ side which. force (end_at (after p q (begun near es) calls) side) which)) same
+    (told_rightly p q near (Held p q near) (keeps (record { first = lp; second = lq; apart = ne; loads = loads })) calls)

@@ -6,14 +6,13 @@ use Rattle.crc10.specs.Changes.{changed, found}
 use Rattle.type3.specs.Kinds.{Meaning}
 use Rattle.type3.specs.declared.payload.Either.{Either}
 use Rattle.profile.specs.declared.entry.Entry.{Entry}
-use Rattle.profile.specs.Questions.{refusal}
 use Rattle.profile.specs.Labels.{span_of}
 use Rattle.placing.specs.Lists.{all, those, last, greatest, gather, everywhere, Everywhere}
 use Rattle.trunk.specs.declared.answer.Which.{Which}
 use Rattle.trunk.specs.End.{force}
 use Rattle.network.specs.declared.side.Side.{Side}
 use Rattle.network.specs.Names.{other, same_side, Stream, messages, same_stream, same_octets}
-use Rattle.network.specs.Runs.{Turn, Moment, both, end_at, after, history}
+use Rattle.network.specs.Runs.{Turn, Moment, Ends, begun, end_at, history}
 use Rattle.network.specs.Packets.{Content, entry, message, Packet, Named, Arrival, stream_of, had, packet_from, arrival, arrivals}
 
 -- ---- sound, spoiled, foreign
@@ -146,11 +145,10 @@ module _ {P Q : Type 0} where
     pub in_force_is_what_the_far_end_had : (side : Side) (which : Which) (s : Sound P Q) → latest_news (sounds side (messages which) h) ≡ Some s
         → in_force side which ≡ had (other side) which s.packet.time h
 
-  -- For two kinds of different message types, every profile, and every list of calls on two ends that were just started: where the
-  -- network keeps its rule and ages keep theirs, both ends tell rightly.
-  abbrev pub Law : Meaning P → Meaning Q → Type 0
-  Law p q =
-      (p.message_type ≢ q.message_type) → (es : List Entry) → refusal es ≡ None → (calls : List (Turn P Q))
-      → (let h = history p q (both es) calls in
-      each_arrival carried h ≡ true → each_arrival (aged es) h ≡ true
-      → ToldRightly h (λ side which. force (end_at (after p q (both es) calls) side) which))
+  -- The law for a list of calls on two ends that were just started, and the two ends after it. For two kinds of different message
+  -- types and one profile: where the network keeps its rule and ages keep theirs, both ends tell rightly.
+  abbrev pub Law : Meaning P → Meaning Q → List Entry → List Entry → List (Turn P Q) → Ends P Q → Type 0
+  Law p q near far calls ends =
+      (p.message_type ≢ q.message_type) → near ≡ far
+      → (let h = history p q (begun near far) calls in
+      each_arrival carried h ≡ true → each_arrival (aged near) h ≡ true → ToldRightly h (λ side which. force (end_at ends side) which))

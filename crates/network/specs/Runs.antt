@@ -53,9 +53,9 @@ module _ {P Q : Type 0} where
   with_end w Near s = record { near = s; far = w.far }
   with_end w Far s = record { near = w.near; far = s }
 
-  -- two ends that were just started, with one profile
-  abbrev pub both : List Entry → Ends P Q
-  both es = record { near = started es; far = started es }
+  -- two ends that were just started, each with its profile
+  abbrev pub begun : List Entry → List Entry → Ends P Q
+  begun near far = record { near = started near; far = started far }
 
   module _ (p : Meaning P) (q : Meaning Q) where
     -- a call on its end

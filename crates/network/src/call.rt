@@ -5,6 +5,9 @@ use trunk::answer::{Arrived, Which};
 use type3::payload::Either;
 use type3::written::Written;
 
+// No packet is longer, in octets.
+pub const LONGEST: usize = 12;
+
 // A call on an end.
 #[derive(Clone, Copy, Debug)]
 pub enum Call<'a, X, Y> {
@@ -44,6 +47,6 @@ pub struct Turn<'a, X, Y> {
 pub enum Answer<X, Y> {
     Audio(Result<u16, Refusal>),
     Event(Result<(), Refusal>),
-    Due(Result<Option<Written<12>>, Refusal>),
+    Due(Result<Option<Written<LONGEST>>, Refusal>),
     Arrive(Result<Arrived<X, Y>, Refusal>),
 }

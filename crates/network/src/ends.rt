@@ -1,10 +1,13 @@
 // Two ends of a trunk in service.
-ghost use Rattle.std.specs.Prelude.{◌≡◌};
+ghost use Rattle.std.specs.Prelude.{◌≡◌, false, is_some};
+ghost use Rattle.profile.specs.Questions.{refusal};
 ghost use Rattle.network.specs.Runs.{end_at, begun, done, taken};
-ghost use Rattle.network.specs.Answers.{call_of, turn_of, said, answered};
+ghost use Rattle.trunk.specs.End.{due};
+ghost use Rattle.network.specs.Answers.{call_of, turn_of, said_by, answered};
 
-use crate::call::{Answer, Call, Turn};
+use crate::call::{Answer, Call, LONGEST, Turn};
 use crate::side::Side;
+use refusal::Refusal;
 use std::marker::Model;
 use trunk::answer::Which;
 use trunk::service::InService;
@@ -26,13 +29,11 @@ impl<P: Kind, Q: Kind> Model for Ends<P, Q> {
     ghost view = { λ ends. record { near = ends.near; far = ends.far } };
 }
 
-// No packet is longer.
-const LONGEST: usize = 12;
-
 impl<P: Kind, Q: Kind> Ends<P, Q> {
     // Both are started.
     pub fn start(near: SetUp, far: SetUp) -> Ends<P, Q>
-        ensures { result ≡ begun near far }
+        ensures value { result ≡ begun near far }
+        ensures sound { is_some (refusal near) ≡ false }
     {
         Ends {
             near: near.start::<P, Q>(),
@@ -65,7 +66,7 @@ fn answer<P: Kind, Q: Kind>(
     end: &mut InService<P, Q>,
     call: &Call<P::Message, Q::Message>,
 ) -> Answer<P::Message, Q::Message>
-    ensures value { result ≡ said (call_of call.now) (done P.Kind.model Q.Kind.model end.old (call_of call.now)).0 }
+    ensures value { result ≡ said_by P.Kind.model Q.Kind.model end.old (call_of call.now) }
     ensures after { end.new ≡ (done P.Kind.model Q.Kind.model end.old (call_of call.now)).1 }
 {
     match call {
@@ -75,24 +76,29 @@ fn answer<P: Kind, Q: Kind>(
             payload,
         } => Answer::Audio(end.audio(*time, *place, payload)),
         Call::Event { time, message } => Answer::Event(end.event(*time, *message)),
-        Call::Due { which, time, room } => answer_due(end, *which, *time, *room),
+        Call::Due { which, time, room } => { Answer::Due(due_octets(end, *which, *time, *room)) }
         Call::Arrive {
-            time, uui, octets, ..
+            time,
+            uui,
+            octets,
+            ..
         } => Answer::Arrive(end.arrive(*time, *uui, octets)),
     }
 }
 
 // What is due, with its octets.
-fn answer_due<P: Kind, Q: Kind>(
+fn due_octets<P: Kind, Q: Kind>(
     end: &mut InService<P, Q>,
     which: Which,
     time: u64,
     room: usize,
-) -> Answer<P::Message, Q::Message>
-    ensures value { result ≡ Due (due P.Kind.model Q.Kind.model end.old which time room).0 }
+) -> Result<Option<Written<LONGEST>>, Refusal>
+    ensures value { result ≡ (due P.Kind.model Q.Kind.model end.old which time room).0 }
     ensures after { end.new ≡ (due P.Kind.model Q.Kind.model end.old which time room).1 }
 {
     let mut octets = [0; LONGEST];
-    let due = end.due(which, time, &mut octets[..room.min(LONGEST)]);
-    Answer::Due(due.map(|count| count.map(|count| Written::new(octets, count))))
+    let Some(count) = end.due(which, time, &mut octets[..room.min(LONGEST)])? else {
+        return Ok(None);
+    };
+    Ok(Some(Written::new(octets, count)))
 }

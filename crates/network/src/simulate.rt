@@ -1,5 +1,5 @@
 // A list of calls on two ends that are just started.
-ghost use Rattle.std.specs.Prelude.{◌≡◌, IfOk, MatchResult, map};
+ghost use Rattle.std.specs.Prelude.{◌≡◌, IfOk, IfErr, map};
 ghost use Rattle.network.specs.Runs.{begun, after, history};
 ghost use Rattle.network.specs.Answers.{turn_of, said_at};
 ghost use Rattle.network.specs.Law.{Law};
