@@ -2,3 +2,4 @@ pub mod Names
 pub mod Runs
 pub mod Packets
 pub mod Law
+pub mod Witness
