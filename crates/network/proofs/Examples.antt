@@ -1,5 +1,6 @@
--- The witness of the law, by computing. Assumes nothing.
+-- The witness of the law and the rows, by computing. Assumes nothing.
 use Rattle.std.proofs.Common.{refl}
+use Rattle.network.specs.Rows.{RowsHold}
 use Rattle.network.specs.Witness.{PremisesHold, AnswersAre, SortsOccur, InForce, LawIsNotEmpty}
 
 premises_hold : PremisesHold
@@ -29,3 +30,31 @@ in_force = record {
 
 pub law_is_not_empty : LawIsNotEmpty
 law_is_not_empty = record { premises = premises_hold; answers = answers_are; sorts = sorts_occur; in_force = in_force }
+
+pub rows_hold : RowsHold
+rows_hold = record {
+  example_a_loads = refl;
+  example_a_spans_80_ms = refl;
+  example_b_loads = refl;
+  example_b_spans_40_ms = refl;
+  example_c_loads = refl;
+  example_c_spans_20_ms = refl;
+  mixed_widths_are_refused_with_6_at_place_3 = refl;
+  under_a_entry_2_labels_85_ms_with_1 = refl;
+  under_b_entry_3_is_the_one_for_8_to_15_and_40_octets = refl;
+  under_b_entry_3_labels_85_ms_with_9 = refl;
+  under_a_entry_2_refuses_12_ms_with_13 = refl;
+  cas_all_zero_is_written = refl;
+  cas_all_zero_is_read = refl;
+  dtmf_0_at_level_0_is_written = refl;
+  dtmf_0_at_level_0_is_read = refl;
+  dtmf_5_at_level_10_is_written = refl;
+  dtmf_5_at_level_10_is_read = refl;
+  a_changed_bit_is_refused_with_24 = refl;
+  stamps_16380_then_4_in_10_ms_are_8_apart = refl;
+  stamps_16380_then_4_in_20_s_are_16392_apart = refl;
+  equal_labels_39_ms_apart_are_a_repeat = refl;
+  equal_labels_40_ms_apart_are_refused_with_28 = refl;
+  equal_labels_41_ms_apart_are_80_apart = refl;
+  labels_3_then_2_in_5_ms_are_late = refl;
+}

@@ -3,3 +3,4 @@ pub mod Runs
 pub mod Packets
 pub mod Law
 pub mod Witness
+pub mod Rows

@@ -1,5 +1,5 @@
 use Rattle.network.proofs.Rightly.{the_law}
-use Rattle.network.proofs.Examples.{law_is_not_empty}
+use Rattle.network.proofs.Examples.{law_is_not_empty, rows_hold}
 use Rattle.network.proofs.law.law_of_two_ends.Goals as goal
 
 pub returns-clause-law : goal.returns-clause-law
@@ -7,3 +7,6 @@ returns-clause-law g c = the_law g.P.Kind.model g.Q.Kind.model g.met.P.Kind.lawf
 
 pub returns-clause-witness : goal.returns-clause-witness
 returns-clause-witness g c = law_is_not_empty
+
+pub returns-clause-rows : goal.returns-clause-rows
+returns-clause-rows g c = rows_hold
