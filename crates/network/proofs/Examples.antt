@@ -1,13 +1,10 @@
 -- The witness of the law and the rows, by computing. Assumes nothing.
 use Rattle.std.proofs.Common.{refl}
 use Rattle.network.specs.Rows.{RowsHold}
-use Rattle.network.specs.Witness.{PremisesHold, AnswersAre, SortsOccur, InForce, LawIsNotEmpty}
+use Rattle.network.specs.Witness.{PremisesHold, SortsOccur, InForce, LawIsNotEmpty}
 
 premises_hold : PremisesHold
 premises_hold = record { message_types_differ = λ e. cc; profile_loads = refl; network_keeps_its_rule = refl; ages_keep_theirs = refl }
-
-answers_are : AnswersAre
-answers_are = refl
 
 sorts_occur : SortsOccur
 sorts_occur = record {
@@ -29,7 +26,7 @@ in_force = record {
 }
 
 pub law_is_not_empty : LawIsNotEmpty
-law_is_not_empty = record { premises = premises_hold; answers = answers_are; sorts = sorts_occur; in_force = in_force }
+law_is_not_empty = record { premises = premises_hold; answers = refl; sorts = sorts_occur; in_force = in_force }
 
 pub rows_hold : RowsHold
 rows_hold = record {

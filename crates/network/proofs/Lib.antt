@@ -13,3 +13,4 @@ pub mod Copies
 pub mod Held
 pub mod Rightly
 pub mod Examples
+pub mod Sampled

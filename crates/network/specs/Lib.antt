@@ -4,3 +4,4 @@ pub mod Packets
 pub mod Law
 pub mod Witness
 pub mod Rows
+pub mod Samples

@@ -21,6 +21,7 @@ use Rattle.profile.specs.Labels.{find, span_of}
 use Rattle.profile.specs.Examples.{example_a, example_b, example_c, mixed_widths}
 use Rattle.placing.specs.declared.stream.Told.TheVariants.{Repeat, Late}
 use Rattle.placing.specs.Rows.{after_first, news}
+use Rattle.network.specs.Witness.{digit, signal}
 use Rattle.trunk.specs.End.{End, started, audio}
 
 -- ---- what the rows are about
@@ -38,13 +39,13 @@ abbrev pub reads : List ℕ → Result (Either (Payload Digit) (Payload CasBits)
 reads o = read_either digits cas o
 
 abbrev pub all_zero : CasBits
-all_zero = record { a = false; b = false; c = false; d = false }
+all_zero = signal false false false false
 
 abbrev pub dtmf_0_at_level_0 : Digit
-dtmf_0_at_level_0 = record { level = 0; system = Dtmf; code = 0; low = refl; known = refl }
+dtmf_0_at_level_0 = digit 0 Dtmf 0 refl refl
 
 abbrev pub dtmf_5_at_level_10 : Digit
-dtmf_5_at_level_10 = record { level = 10; system = Dtmf; code = 5; low = refl; known = refl }
+dtmf_5_at_level_10 = digit 10 Dtmf 5 refl refl
 
 -- the octets of CAS with all bits zero, of DTMF 0 at level 0, and of DTMF 5 at level 10; and the last with one bit changed
 abbrev pub cas_octets : List ℕ

@@ -1,5 +1,5 @@
 -- A list of calls on two ends, with its answers, for which every premise of the law holds: the law is not empty. Assumes nothing.
-use Rattle.std.specs.Prelude.{◌≡◌, ℕ, Bool, true, false, not, ◌&&◌, List, [], ◌∷◌, map, take, is_some, Some, None, Ok, Err, Option, Result, ◌==◌, ◌≢◌, refl}
+use Rattle.std.specs.Prelude.{◌≡◌, ℕ, Bool, true, false, not, ◌&&◌, List, [], ◌∷◌, map, take, is_some, Some, None, Ok, Err, Option, Result, ◌==◌, ◌≢◌, nat_lt, refl}
 use Rattle.std.specs.List.{slice_get}
 use Rattle.std.specs.Option.{option_map, option_map_or, option_and_then}
 use Rattle.refusal.specs.declared.Refusal.TheVariants.{Sending, Type3, Arrival as AtArrival}
@@ -8,9 +8,12 @@ use Rattle.refusal.specs.declared.ArrivalFault.TheVariants.{UnknownUui}
 use Rattle.refusal.specs.declared.Type3Fault.TheVariants.{WrongCrc}
 use Rattle.refusal.specs.declared.Refusal.{Refusal}
 use Rattle.type3.specs.declared.payload.Either.TheVariants.{First, Second}
+use Rattle.kinds.specs.declared.system.System.{System}
 use Rattle.kinds.specs.declared.system.System.TheVariants.{Dtmf}
 use Rattle.kinds.specs.declared.digit.Digit.{Digit}
 use Rattle.kinds.specs.declared.cas.CasBits.{CasBits}
+use Rattle.kinds.specs.Systems.{number_of}
+use Rattle.kinds.specs.Codes.{is_code}
 use Rattle.kinds.specs.Digits.{digits}
 use Rattle.kinds.specs.Cas.{cas}
 use Rattle.profile.specs.Examples.{entries_of}
@@ -33,15 +36,21 @@ use Rattle.network.specs.Law.{spoiled, foreign, original, sound, sounds, each_ar
 
 -- ---- what is sent
 
+abbrev pub digit : (level : ℕ) (system : System) (code : ℕ) → nat_lt level 32 ≡ true → is_code (number_of system) code ≡ true → Digit
+digit level system code low known = record { level = level; system = system; code = code; low = low; known = known }
+
+abbrev pub signal : Bool → Bool → Bool → Bool → CasBits
+signal a b c d = record { a = a; b = b; c = c; d = d }
+
 -- keys 5 and 7 at -10 dBm0, and signalling bits
 abbrev pub five : Digit
-five = record { level = 10; system = Dtmf; code = 5; low = refl; known = refl }
+five = digit 10 Dtmf 5 refl refl
 
 abbrev pub seven : Digit
-seven = record { level = 10; system = Dtmf; code = 7; low = refl; known = refl }
+seven = digit 10 Dtmf 7 refl refl
 
 abbrev pub bits : CasBits
-bits = record { a = true; b = false; c = false; d = true }
+bits = signal true false false true
 
 -- the payloads of 5, made for 1,000, and its refresh, made for 1,510
 abbrev pub five_copy_0 : List ℕ
@@ -160,19 +169,23 @@ witness =
     ∷ near (arrive 3 24 bits_copy_0 (Some 25)) (bits_news Event 0 0 0 bits)
     ∷ []
 
-abbrev pub calls : List (Turn Digit CasBits)
-calls = map (λ m. record { side = m.side; call = m.call }) witness
+abbrev pub calls_of : List (Moment Digit CasBits) → List (Turn Digit CasBits)
+calls_of ms = map (λ m. record { side = m.side; call = m.call }) ms
+
+-- two ends with this profile answer the calls so
+abbrev pub Answered : List Entry → List (Moment Digit CasBits) → Type 0
+Answered es ms = history digits cas (both es) (calls_of ms) ≡ ms
 
 abbrev pub profile : List Entry
 profile = entries_of A
 
 abbrev pub ends : Ends Digit CasBits
-ends = after digits cas (both profile) calls
+ends = after digits cas (both profile) (calls_of witness)
 
 -- ---- what is true of them
 
 abbrev pub run : List (Moment Digit CasBits)
-run = history digits cas (both profile) calls
+run = history digits cas (both profile) (calls_of witness)
 
 -- every premise of the law
 pub record PremisesHold : Type 0 where
@@ -180,10 +193,6 @@ pub record PremisesHold : Type 0 where
   pub profile_loads : refusal profile ≡ None
   pub network_keeps_its_rule : each_arrival carried run ≡ true
   pub ages_keep_theirs : each_arrival (aged profile) run ≡ true
-
--- the ends answer each call so
-abbrev pub AnswersAre : Type 0
-AnswersAre = run ≡ witness
 
 -- of the arrival at a place of the list, beside the calls before it
 abbrev pub at : {Y : Type 0} → ℕ → (List (Moment Digit CasBits) → Arrival Digit CasBits → Y) → Option Y
@@ -216,6 +225,6 @@ pub record InForce : Type 0 where
 
 pub record LawIsNotEmpty : Type 0 where
   pub premises : PremisesHold
-  pub answers : AnswersAre
+  pub answers : Answered profile witness
   pub sorts : SortsOccur
   pub in_force : InForce

@@ -1,5 +1,6 @@
 use Rattle.network.proofs.Rightly.{the_law}
 use Rattle.network.proofs.Examples.{law_is_not_empty, rows_hold}
+use Rattle.network.proofs.Sampled.{samples_hold}
 use Rattle.network.proofs.law.law_of_two_ends.Goals as goal
 
 pub returns-clause-law : goal.returns-clause-law
@@ -10,3 +11,6 @@ returns-clause-witness g c = law_is_not_empty
 
 pub returns-clause-rows : goal.returns-clause-rows
 returns-clause-rows g c = rows_hold
+
+pub returns-clause-samples : goal.returns-clause-samples
+returns-clause-samples g c = samples_hold
