@@ -4,6 +4,7 @@
 Each example breaks one premise, and then a promise. With any call left out, the same broken premise breaks no promise.
 """
 
+import copy
 import random
 
 from lists import Maker, random_profile
@@ -33,9 +34,10 @@ TWICE = [Entry(None, 1, 0, 15, 1, 5, 5), Entry(None, 9, 0, 15, 1, 5, 5)]
 
 
 def ends_of(profile, kinds, far):
+    """Two new ends, or a far end that is given."""
     ends = Ends(profile, kinds)
     if far is not None:
-        ends.ends[FAR] = End(far, kinds)
+        ends.ends[FAR] = copy.deepcopy(far)
     return ends
 
 
@@ -89,7 +91,12 @@ example({"message types"}, {ORIGIN, IN_FORCE}, ["None", "00 00 0A 05 0A EB", "di
 example(set(), {ORIGIN}, ["0", "audio 0 0 0"],
         (NEAR, Audio(0, 1, b"\0")), (FAR, Copy(0, 0)), profile=TWICE)
 example(set(), {ORIGIN}, ["8", "audio 3 0 0"],
-        (NEAR, Audio(40, 0, bytes(40))), (FAR, Copy(0, 0)), far=EXAMPLES["B"])
+        (NEAR, Audio(40, 0, bytes(40))), (FAR, Copy(0, 0)), far=End(EXAMPLES["B"]))
+# the far end has had this packet of an earlier near end
+had_before = End(EXAMPLES["A"])
+had_before.arrive(0, 0, b"\0")
+example(set(), {NEWS}, ["0", "repeat audio"],
+        (NEAR, Audio(0, 5, b"\0")), (FAR, Copy(0, 0)), far=had_before)
 example({"time"}, {NEWS}, ["0", "refused 10 arrival"],
         (NEAR, Audio(0, 5, b"\0")), (FAR, Copy(LAST_TIME + 1, 0)))
 example({"runs back"}, {NEWS}, ["0", "audio 5 0 0", "1", "refused 20 arrival"],
