@@ -8,7 +8,7 @@ import copy
 import random
 
 from lists import Maker, random_profile
-from end import EXAMPLES, KINDS, LAST_TIME, CasBits, Digits, Digit, End, Entry
+from end import EXAMPLES, KINDS, LAST_TIME, CasBits, Digits, Digit, End, Entry, shown
 from law import FAR, NEAR, OTHER, Arrive, Audio, Due, Ends, Event, broken_premises, broken_promises, made
 
 NEWS, ORIGIN, IN_FORCE = "news exactly when later", "news names its origin", "in force is what the far end had"
@@ -74,8 +74,8 @@ def parts(broken):
 
 def example(breaks, fails, answers, *steps, profile=EXAMPLES["A"], kinds=KINDS, far=None, least=True):
     ends = done(ends_of(profile, kinds, far), steps)
-    shown = [m.answer.hex(" ").upper() if isinstance(m.answer, bytes) else str(m.answer) for m in ends.history]
-    assert shown == answers, (breaks, shown)
+    lines = [shown(m.answer) for m in ends.history]
+    assert lines == answers, (breaks, lines)
     assert parts(broken_premises(ends)) == breaks, (breaks, broken_premises(ends))
     assert parts(broken_promises(ends)) == fails, (breaks, broken_promises(ends))
     for at in range(len(steps) if least else 0):
@@ -86,39 +86,39 @@ def example(breaks, fails, answers, *steps, profile=EXAMPLES["A"], kinds=KINDS, 
 
 # ---- the examples of docs/law.md
 
-example({"message types"}, {ORIGIN, IN_FORCE}, ["None", "00 00 0A 05 0A EB", "digit event 0 0 0 0 5 10"],
+example({"message types"}, {ORIGIN, IN_FORCE}, ["ok", "sent 00000a050aeb", "digit event 0 0 0 0 5 10"],
         (NEAR, Event(1, 0, FIVE)), (NEAR, Due(1, 0, 6)), (FAR, Copy(0, 1)), kinds=(Digits, Codes))
-example(set(), {ORIGIN}, ["0", "audio 0 0 0"],
+example(set(), {ORIGIN}, ["label 0", "audio 0 0 0"],
         (NEAR, Audio(0, 1, b"\0")), (FAR, Copy(0, 0)), profile=TWICE)
-example(set(), {ORIGIN}, ["8", "audio 3 0 0"],
+example(set(), {ORIGIN}, ["label 8", "audio 3 0 0"],
         (NEAR, Audio(40, 0, bytes(40))), (FAR, Copy(0, 0)), far=End(EXAMPLES["B"]))
 # the far end has had this packet of an earlier near end
 had_before = End(EXAMPLES["A"])
 had_before.arrive(0, 0, b"\0")
-example(set(), {NEWS}, ["0", "repeat audio"],
+example(set(), {NEWS}, ["label 0", "repeat audio"],
         (NEAR, Audio(0, 5, b"\0")), (FAR, Copy(0, 0)), far=had_before)
-example({"time"}, {NEWS}, ["0", "refused 10 arrival"],
+example({"time"}, {NEWS}, ["label 0", "refused 10 arrival"],
         (NEAR, Audio(0, 5, b"\0")), (FAR, Copy(LAST_TIME + 1, 0)))
-example({"runs back"}, {NEWS}, ["0", "audio 5 0 0", "1", "refused 20 arrival"],
+example({"runs back"}, {NEWS}, ["label 0", "audio 5 0 0", "label 1", "refused 20 arrival"],
         (NEAR, Audio(0, 5, b"\0")), (FAR, Copy(1, 0)), (NEAR, Audio(5, 5, b"\0")), (FAR, Copy(0, 2)))
 example({"forged"}, {NEWS, ORIGIN}, ["cas event 0 0 0 0 0 0 0"],
         (FAR, Arrive(0, 24, bytes.fromhex("0000000C66"), None)))
-example({"forged"}, {NEWS, ORIGIN}, ["None", "00 00 00 0C 66", "cas event 0 0 0 1 0 0 0"],
+example({"forged"}, {NEWS, ORIGIN}, ["ok", "sent 0000000c66", "cas event 0 0 0 1 0 0 0"],
         (NEAR, Event(1, 0, ZERO)), (NEAR, Due(1, 0, 5)), (FAR, Copy(0, 1, octets="0000080C75")))
-example({"forged"}, {NEWS, ORIGIN}, ["None", "00 00 00 0C 66", "cas event 0 0 0 0 0 0 0"],
+example({"forged"}, {NEWS, ORIGIN}, ["ok", "sent 0000000c66", "cas event 0 0 0 0 0 0 0"],
         (NEAR, Event(1, 0, ZERO)), (NEAR, Due(1, 0, 5)), (NEAR, Copy(0, 1)))
-example({"forged"}, {NEWS, ORIGIN}, ["0", "audio 5 0 0"],
+example({"forged"}, {NEWS, ORIGIN}, ["label 0", "audio 5 0 0"],
         (NEAR, Audio(0, 5, b"\0")), (FAR, Copy(0, 0, uui=1)))
-example({"age"}, {NEWS}, ["0", "audio 5 0 0", "1", "refused 28 placing"],
+example({"age"}, {NEWS}, ["label 0", "audio 5 0 0", "label 1", "refused 28 placing"],
         (NEAR, Audio(0, 5, b"\0")), (FAR, Copy(0, 0)), (NEAR, Audio(5, 5, b"\0")), (FAR, Copy(45, 2)))
-example({"age"}, {ORIGIN}, ["0", "audio 5 0 0", "1", "audio 5 85 85"],
+example({"age"}, {ORIGIN}, ["label 0", "audio 5 0 0", "label 1", "audio 5 85 85"],
         (NEAR, Audio(0, 5, b"\0")), (FAR, Copy(0, 0)), (NEAR, Audio(5, 5, b"\0")), (FAR, Copy(46, 2)))
-example({"age"}, {NEWS, ORIGIN}, ["0", "audio 5 0 0", "audio 5 80 80"],
+example({"age"}, {NEWS, ORIGIN}, ["label 0", "audio 5 0 0", "audio 5 80 80"],
         (NEAR, Audio(0, 5, b"\0")), (FAR, Copy(0, 0)), (FAR, Copy(41, 0)))
-example({"age"}, {NEWS, ORIGIN}, ["None", "00 00 0A 05 0A EB", "digit event 0 0 0 0 5 10", "digit event 0 16384 16384 0 5 10"],
+example({"age"}, {NEWS, ORIGIN}, ["ok", "sent 00000a050aeb", "digit event 0 0 0 0 5 10", "digit event 0 16384 16384 0 5 10"],
         (NEAR, Event(0, 0, FIVE)), (NEAR, Due(0, 0, 6)), (FAR, Copy(0, 1)), (FAR, Copy(8193, 1)))
 # the reference is the first to arrive: by the second, whose age is 39, the packet of 5 would be in time
-example({"age"}, {ORIGIN}, ["0", "audio 5 0 0", "repeat audio", "1", "audio 5 85 85"],
+example({"age"}, {ORIGIN}, ["label 0", "audio 5 0 0", "repeat audio", "label 1", "audio 5 85 85"],
         (NEAR, Audio(0, 5, b"\0")), (FAR, Copy(0, 0)), (FAR, Copy(39, 0)), (NEAR, Audio(5, 5, b"\0")), (FAR, Copy(80, 3)), least=False)
 
 

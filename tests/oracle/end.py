@@ -1,7 +1,7 @@
 """One end of a trunk with digits and CAS as its two kinds, made from docs/ alone and not from the programs.
 
 An end in set-up is a list of entries that `load` let pass; an end in service is an `End` over it. A call answers its value, or
-raises `Refused` and has changed nothing. Values print as the lines that a rack is answered.
+raises `Refused` and has changed nothing. `shown` gives the answer as a line of text.
 """
 
 from dataclasses import dataclass
@@ -331,6 +331,18 @@ class MessageNews:
 
     def __str__(self):
         return f"{self.stream} {self.of} {self.redundancy} {self.elapsed} {self.position} {self.message}"
+
+
+def shown(answer):
+    """An answer, or a refusal, as a line."""
+    match answer:
+        case None:
+            return "ok"
+        case int():
+            return f"label {answer}"
+        case bytes():
+            return f"sent {answer.hex()}"
+    return str(answer)
 
 
 class End:
