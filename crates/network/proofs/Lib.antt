@@ -12,3 +12,5 @@ pub mod Arrives
 pub mod Copies
 pub mod Held
 pub mod Rightly
+pub mod Examples
+pub mod Sampled

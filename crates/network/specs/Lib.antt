@@ -2,3 +2,6 @@ pub mod Names
 pub mod Runs
 pub mod Packets
 pub mod Law
+pub mod Witness
+pub mod Rows
+pub mod Samples
