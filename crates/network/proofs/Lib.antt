@@ -14,3 +14,5 @@ pub mod Held
 pub mod Rightly
 pub mod Rooms
 pub mod Steps
+pub mod Examples
+pub mod Sampled

@@ -1,5 +1,8 @@
 -- A host's list of calls and its answers, as the definitions have them. Assumes nothing.
+use denote.Bor.{Bor}
+use Rattle.std.specs.Prelude.{ℕ, List}
 use Rattle.type3.specs.Kinds.{Meaning}
+use Rattle.type3.specs.declared.payload.Either.{Either}
 use Rattle.trunk.specs.End.{End}
 use Rattle.network.specs.declared.call.Call.{Call as HostCall}
 use Rattle.network.specs.declared.call.Call.TheVariants.{Audio, Event, Due, Arrive}
@@ -9,13 +12,13 @@ use Rattle.network.specs.declared.call.Answer.TheVariants as answer
 use Rattle.network.specs.Runs.{Call, audio, event, due, arrive, AnswerTo, Turn, Moment, Ends, end_at, done}
 
 module _ {P Q : Type 0} where
-  abbrev pub call_of : HostCall P Q → Call P Q
+  abbrev pub call_of : HostCall (Bor (List ℕ)) (Either P Q) → Call P Q
   call_of (Audio time place payload) = audio time place payload.now
   call_of (Event time message) = event time message
   call_of (Due which time room) = due which time room
   call_of (Arrive time uui octets copies) = arrive time uui octets.now copies
 
-  abbrev pub turn_of : HostTurn P Q → Turn P Q
+  abbrev pub turn_of : HostTurn (Bor (List ℕ)) (Either P Q) → Turn P Q
   turn_of x = record { side = x.side; call = call_of x.call }
 
   -- an answer by the sort of its call

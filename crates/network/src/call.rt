@@ -2,23 +2,23 @@
 use crate::side::Side;
 use refusal::Refusal;
 use trunk::answer::{Arrived, Which};
-use type3::payload::Either;
 use type3::written::Written;
 
 // No packet is longer, in octets.
 pub const LONGEST: usize = 12;
 
-// A call on an end.
+// A call on an end, with octets `O` and a message `M`. (They are type arguments, since an enum may not hold both a reference and
+// a struct that has a ghost field, as digits have.)
 #[derive(Clone, Copy, Debug)]
-pub enum Call<'a, X, Y> {
+pub enum Call<O, M> {
     Audio {
         time: u64,
         place: usize,
-        payload: &'a [u8],
+        payload: O,
     },
     Event {
         time: u64,
-        message: Either<X, Y>,
+        message: M,
     },
     // with so much room in the buffer
     Due {
@@ -30,16 +30,16 @@ pub enum Call<'a, X, Y> {
     Arrive {
         time: u64,
         uui: u16,
-        octets: &'a [u8],
+        octets: O,
         copies: Option<usize>,
     },
 }
 
 // A call on the end at a side.
 #[derive(Clone, Copy, Debug)]
-pub struct Turn<'a, X, Y> {
+pub struct Turn<O, M> {
     pub side: Side,
-    pub call: Call<'a, X, Y>,
+    pub call: Call<O, M>,
 }
 
 // What a call of each sort is answered. What was due is answered with its octets.

@@ -13,6 +13,7 @@ use trunk::answer::Which;
 use trunk::service::InService;
 use trunk::set_up::SetUp;
 use type3::kind::Kind;
+use type3::payload::Either;
 use type3::written::Written;
 
 #[derive(Drop)]
@@ -51,7 +52,10 @@ impl<P: Kind, Q: Kind> Ends<P, Q> {
     }
 
     // A call on its end.
-    pub fn take(&mut self, turn: &Turn<P::Message, Q::Message>) -> Answer<P::Message, Q::Message>
+    pub fn take(
+        &mut self,
+        turn: &Turn<&[u8], Either<P::Message, Q::Message>>,
+    ) -> Answer<P::Message, Q::Message>
         ensures value { result ≡ answered P.Kind.model Q.Kind.model self.old (turn_of turn.now) }
         ensures after { self.new ≡ taken P.Kind.model Q.Kind.model self.old (turn_of turn.now) }
     {
@@ -64,7 +68,7 @@ impl<P: Kind, Q: Kind> Ends<P, Q> {
 
 fn answer<P: Kind, Q: Kind>(
     end: &mut InService<P, Q>,
-    call: &Call<P::Message, Q::Message>,
+    call: &Call<&[u8], Either<P::Message, Q::Message>>,
 ) -> Answer<P::Message, Q::Message>
     ensures value { result ≡ said_by P.Kind.model Q.Kind.model end.old (call_of call.now) }
     ensures after { end.new ≡ (done P.Kind.model Q.Kind.model end.old (call_of call.now)).1 }

@@ -3,5 +3,6 @@
 
 pub mod call;
 pub mod ends;
+pub mod sample;
 pub mod side;
 pub mod simulate;

@@ -1,14 +1,17 @@
 // A list of calls on two ends that are just started.
 ghost use Rattle.std.specs.Prelude.{◌≡◌, IfOk, IfErr, map};
+ghost use Rattle.profile.specs.declared.load.LoadError.TheVariants.{Memory};
 ghost use Rattle.network.specs.Runs.{begun, after, history};
 ghost use Rattle.network.specs.Answers.{turn_of, said_at};
 ghost use Rattle.network.specs.Law.{Law};
 
 use crate::call::{Answer, Turn};
 use crate::ends::Ends;
+use profile::load::LoadError;
 use std::alloc::Global;
 use trunk::set_up::SetUp;
 use type3::kind::Kind;
+use type3::payload::Either;
 
 // The two ends after a list of calls, and each call's answer.
 #[derive(Drop)]
@@ -24,12 +27,21 @@ pub struct NoMemory {
     pub far: SetUp,
 }
 
+// (By hand, as each conversion here is: a derived one has no contract.)
+impl From<NoMemory> for LoadError {
+    ghost from_gives = { λ _ error. error ≡ Memory };
+
+    fn from(_: NoMemory) -> LoadError {
+        LoadError::Memory
+    }
+}
+
 // Starts two ends, and makes the calls one after another.
 pub fn simulate<P: Kind, Q: Kind>(
     heap: Global,
     near: SetUp,
     far: SetUp,
-    turns: &[Turn<P::Message, Q::Message>],
+    turns: &[Turn<&[u8], Either<P::Message, Q::Message>>],
 ) -> Result<Run<P, Q>, NoMemory>
     ensures answers { IfOk result (λ run. run.answers.items ≡ map said_at (history P.Kind.model Q.Kind.model (begun near far) (map turn_of turns.now))) }
     ensures ends { IfOk result (λ run. run.ends ≡ after P.Kind.model Q.Kind.model (begun near far) (map turn_of turns.now)) }
