@@ -17,12 +17,12 @@ const LEVEL: i8 = -10;
 
 fn main(rt: HostRuntime) -> anyhow::Result<()> {
     let heap = rt.alloc();
-    let mut end = SetUp::new(heap)?;
-    end.load(heap, Example::B.entries())?;
-    let mut end = end.start::<Digits, Cas>();
-    end.event(1000, Either::First(Digit::of_key('5', LEVEL)?))?;
-    tell_due(&rt, &mut end, 1000)?;
-    let mut end = end.stop();
+    let mut early = SetUp::new(heap)?;
+    early.load(heap, Example::B.entries())?;
+    let mut busy = early.start::<Digits, Cas>();
+    busy.event(1000, Either::First(Digit::of_key('5', LEVEL)?))?;
+    tell_due(&rt, &mut busy, 1000)?;
+    let mut end = busy.stop();
     end.load(heap, Example::C.entries())?;
     let mut end = end.start::<Digits, Cas>();
     end.event(

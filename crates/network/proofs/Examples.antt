@@ -69,6 +69,7 @@ rows_hold = record {
   dtmf_5_at_level_10_is_written = refl;
   dtmf_5_at_level_10_is_read = refl;
   a_changed_bit_is_refused_with_24 = refl;
+  an_event_at_1000_is_sent_so = refl;
   stamps_16380_then_4_in_10_ms_are_8_apart = refl;
   stamps_16380_then_4_in_20_s_are_16392_apart = refl;
   equal_labels_39_ms_apart_are_a_repeat = refl;

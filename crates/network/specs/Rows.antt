@@ -19,10 +19,14 @@ use Rattle.profile.specs.declared.entry.Entry.{Entry}
 use Rattle.profile.specs.Questions.{refusal}
 use Rattle.profile.specs.Labels.{find, span_of}
 use Rattle.profile.specs.Examples.{example_a, example_b, example_c, mixed_widths}
-use Rattle.placing.specs.declared.stream.Told.TheVariants.{Repeat, Late}
-use Rattle.placing.specs.Rows.{after_first, news}
-use Rattle.network.specs.Witness.{digit, signal}
+use Rattle.placing.specs.declared.stream.Moved.{Moved}
+use Rattle.placing.specs.declared.stream.Told.{Told}
+use Rattle.placing.specs.declared.stream.Told.TheVariants.{News, Repeat, Late}
+use Rattle.placing.specs.Placing.{place}
+use Rattle.trunk.specs.declared.answer.Which.TheVariants as which
 use Rattle.trunk.specs.End.{End, started, audio}
+use Rattle.network.specs.Runs.{Moment, event, due}
+use Rattle.network.specs.Witness.{digit, signal, near, five, five_copy_0, five_copy_1, five_copy_2, five_refresh, Answered}
 
 -- ---- what the rows are about
 
@@ -60,6 +64,25 @@ dtmf_5_octets = 0x00 ∷ 0x00 ∷ 0x0A ∷ 0x05 ∷ 0x0A ∷ 0xEB ∷ []
 abbrev pub dtmf_5_spoiled : List ℕ
 dtmf_5_spoiled = 0x00 ∷ 0x00 ∷ 0x0A ∷ 0x05 ∷ 0x0A ∷ 0xEA ∷ []
 
+-- a label that arrives so many milliseconds after the first news of a stream
+abbrev pub after_first : ℕ → ℕ → ℕ → ℕ → ℕ → Result (Told Moved) Refusal
+after_first span unit from to gap = (place span unit (Some (record { label = from; arrival = 0; position = 0 })) to gap).0
+
+abbrev pub news : ℕ → Result (Told Moved) Refusal
+news d = Ok (News (record { elapsed = d; position = d }))
+
+-- an event at 1,000, and what is due of it
+abbrev pub sending : List (Moment Digit CasBits)
+sending =
+    near (event 1000 (First five)) (Ok tt)
+    ∷ near (due which.First 1004 6) (Ok (Some five_copy_0))
+    ∷ near (due which.First 1004 6) (Ok None)
+    ∷ near (due which.First 1010 6) (Ok (Some five_copy_1))
+    ∷ near (due which.First 1010 6) (Ok (Some five_copy_2))
+    ∷ near (due which.First 1509 6) (Ok None)
+    ∷ near (due which.First 1510 6) (Ok (Some five_refresh))
+    ∷ []
+
 -- ---- the rows
 
 pub record RowsHold : Type 0 where
@@ -84,6 +107,8 @@ pub record RowsHold : Type 0 where
   pub dtmf_5_at_level_10_is_written : written digits (plain dtmf_5_at_level_10) ≡ dtmf_5_octets
   pub dtmf_5_at_level_10_is_read : reads dtmf_5_octets ≡ Ok (First (plain dtmf_5_at_level_10))
   pub a_changed_bit_is_refused_with_24 : reads dtmf_5_spoiled ≡ Err (Type3 WrongCrc)
+  -- sending
+  pub an_event_at_1000_is_sent_so : Answered example_a sending
   -- placing: the span, what a label counts, two labels, and the time between their arrivals
   pub stamps_16380_then_4_in_10_ms_are_8_apart : after_first 16384 1 16380 4 10 ≡ news 8
   pub stamps_16380_then_4_in_20_s_are_16392_apart : after_first 16384 1 16380 4 20000 ≡ news 16392

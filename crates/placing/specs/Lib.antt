@@ -4,4 +4,3 @@ pub mod News
 pub mod Receiving
 pub mod Lists
 pub mod Arrivals
-pub mod Rows

@@ -2,7 +2,6 @@
 ghost use Rattle.std.specs.Prelude.{◌≡◌, None};
 ghost use Rattle.placing.specs.Placing.{place, by_sign};
 ghost use Rattle.placing.specs.Arrivals.{StampsTell, LabelsTell, PlacedWhereMade, PlacesRightly};
-ghost use Rattle.placing.specs.Rows.{RowsHold};
 ghost use Rattle.placing.specs.News.{IfNews, Changed};
 
 use crate::span::Labelling;
@@ -71,7 +70,6 @@ impl Stream {
         ensures labels { LabelsTell }
         ensures placed { PlacedWhereMade }
         ensures rightly { PlacesRightly }
-        ensures rows { RowsHold }
     {
         Stream { latest: None }
     }

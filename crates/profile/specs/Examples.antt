@@ -1,13 +1,9 @@
--- The example profiles, and what is known of them. Assumes nothing.
-use Rattle.std.specs.Prelude.{◌≡◌, ℕ, if◌then◌else◌, List, [], ◌∷◌, codes, Some, None, Option}
+-- The example profiles. Assumes nothing.
+use Rattle.std.specs.Prelude.{ℕ, if◌then◌else◌, List, [], ◌∷◌, codes, Some, None, Option}
 use Rattle.std.specs.Str.{bytes_eq}
-use Rattle.refusal.specs.declared.Refusal.TheVariants.{Profile}
-use Rattle.refusal.specs.declared.ProfileFault.TheVariants.{Unlike}
 use Rattle.profile.specs.declared.entry.Entry.{Entry}
 use Rattle.profile.specs.declared.examples.Example.{Example}
 use Rattle.profile.specs.declared.examples.Example.TheVariants.{A, B, C}
-use Rattle.profile.specs.Questions.{refusal}
-use Rattle.profile.specs.Labels.{find, label_at, span_of}
 
 -- index, format, first and last UUI, length and packet time; the interval is always 5 ms
 abbrev pub entry : Option ℕ → ℕ → ℕ → ℕ → ℕ → ℕ → Entry
@@ -68,16 +64,3 @@ example_named name =
     else if bytes_eq name (codes "B") then Some B
     else if bytes_eq name (codes "C") then Some C
     else None
-
-pub record ExamplesHold : Type 0 where
-  pub a_loads : refusal example_a ≡ None
-  pub b_loads : refusal example_b ≡ None
-  pub c_loads : refusal example_c ≡ None
-  pub a_spans_80_ms : span_of example_a ≡ 80
-  pub b_spans_40_ms : span_of example_b ≡ 40
-  pub c_spans_20_ms : span_of example_c ≡ 20
-  pub mixed_widths_is_refused_at_its_fourth_entry : refusal mixed_widths ≡ Some (Profile Unlike 3)
-  pub a_labels_85_ms_with_1 : label_at example_a 2 85 ≡ Some 1
-  -- the entry for the UUIs 8 to 15 and length 40 is at place 3
-  pub b_finds_by_uui_and_length : find example_b 8 40 ≡ Some 3
-  pub b_labels_85_ms_with_9 : label_at example_b 3 85 ≡ Some 9

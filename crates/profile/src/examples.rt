@@ -4,7 +4,7 @@ ghost use Rattle.std.specs.Result.{result_ok};
 ghost use Rattle.refusal.specs.declared.Refusal.TheVariants.{Profile as OfProfile};
 ghost use Rattle.refusal.specs.declared.ProfileFault.TheVariants.{Unlike};
 ghost use Rattle.profile.specs.declared.load.LoadError.TheVariants.{Refused, Memory};
-ghost use Rattle.profile.specs.Examples.{entries_of, example_named, ExamplesHold};
+ghost use Rattle.profile.specs.Examples.{entries_of, example_named};
 
 use crate::entry::Entry;
 use crate::load::LoadError;
@@ -113,8 +113,7 @@ impl Example {
     }
 
     pub fn load(self, heap: Global) -> Result<Profile, LoadError>
-        ensures loads { MatchResult result (λ p. p ≡ entries_of self) (λ e. e ≡ Memory) }
-        ensures examples { ExamplesHold }
+        ensures { MatchResult result (λ p. p ≡ entries_of self) (λ e. e ≡ Memory) }
     {
         Profile::load(heap, self.entries())
     }

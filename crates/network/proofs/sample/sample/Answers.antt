@@ -1,5 +1,4 @@
-use Rattle.std.proofs.Common.{◌≡◌, map, ap, sym, ◌∙◌}
-use Rattle.network.specs.Answers.{said_at}
+use Rattle.std.proofs.Common.{◌≡◌}
 use Rattle.network.specs.Witness.{five, seven}
 use Rattle.network.proofs.Examples.{witness_said, witness_ends, law_is_not_empty, rows_hold}
 use Rattle.network.proofs.Sampled.{samples_hold}
