@@ -7,7 +7,7 @@ use crate::answer::Answer;
 use crate::call::{Call, Packet};
 use crate::labels::Labels;
 use crate::messages::hear;
-use examples::hex::octets_of;
+use examples::hex::{Letters, octets_of};
 use kinds::cas::Cas;
 use kinds::digits::Digits;
 use placing::receiver::Receiver;
@@ -80,13 +80,13 @@ impl Streams {
         match packet {
             Packet::Label(label) => Ok(self.labels.answer(time, label)),
             Packet::Digit(text) => {
-                let octets = octets_of(heap, text)?;
+                let octets = octets_of(heap, Letters::Upper, text)?;
                 Ok(octets.map_or(Answer::BadLine, |octets| {
                     Answer::of_digit(hear(&mut self.digits, time, octets.as_slice()))
                 }))
             }
             Packet::Cas(text) => {
-                let octets = octets_of(heap, text)?;
+                let octets = octets_of(heap, Letters::Upper, text)?;
                 Ok(octets.map_or(Answer::BadLine, |octets| {
                     Answer::of_cas(hear(&mut self.cas, time, octets.as_slice()))
                 }))

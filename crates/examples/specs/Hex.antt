@@ -1,10 +1,22 @@
 -- Octets in hexadecimal. Assumes nothing.
 use Rattle.std.specs.Prelude.{ℕ, ◌+◌, ◌*◌, List, [], ◌∷◌, Some, None, codes, Option}
 use Rattle.kinds.specs.Keys.{place_from}
+use Rattle.examples.specs.declared.hex.Letters.{Letters}
+use Rattle.examples.specs.declared.hex.Letters.TheVariants.{Upper, Lower}
 
--- a digit's value is its place in this row
-abbrev pub hex_value : ℕ → Option ℕ
-hex_value digit = place_from 0 (codes "0123456789ABCDEF") digit
+-- the digits, each at the place of its value
+abbrev pub upper : List ℕ
+upper = codes "0123456789ABCDEF"
+
+abbrev pub lower : List ℕ
+lower = codes "0123456789abcdef"
+
+abbrev pub row_of : Letters → List ℕ
+row_of Upper = upper
+row_of Lower = lower
+
+abbrev pub hex_value : List ℕ → ℕ → Option ℕ
+hex_value row digit = place_from 0 row digit
 
 abbrev pub octet_by : Option ℕ → Option ℕ → Option ℕ
 octet_by (Some high) (Some low) = Some (high * 16 + low)
@@ -12,8 +24,8 @@ octet_by (Some high) None = None
 octet_by None low = None
 
 -- two digits, the upper first
-abbrev pub octet_of : List ℕ → Option ℕ
-octet_of [] = None
-octet_of (high ∷ []) = None
-octet_of (high ∷ low ∷ []) = octet_by (hex_value high) (hex_value low)
-octet_of (high ∷ low ∷ next ∷ more) = None
+abbrev pub octet_of : Letters → List ℕ → Option ℕ
+octet_of letters [] = None
+octet_of letters (high ∷ []) = None
+octet_of letters (high ∷ low ∷ []) = octet_by (hex_value (row_of letters) high) (hex_value (row_of letters) low)
+octet_of letters (high ∷ low ∷ next ∷ more) = None

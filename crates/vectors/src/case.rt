@@ -2,7 +2,7 @@
 use crate::answer::Answer;
 use crate::reading::{read, read_wide};
 use crate::writing::Asked;
-use examples::hex::octets_of;
+use examples::hex::{Letters, octets_of};
 use kinds::export::gublaisma_read_type3;
 use std::alloc::{AllocError, Global};
 
@@ -29,7 +29,7 @@ fn answer_octets<F: FnOnce(&[u8]) -> Answer>(
 ) -> Result<Option<Answer>, AllocError>
     requires { F.IsAlwaysCallable answer }
 {
-    let octets = octets_of(heap, text)?;
+    let octets = octets_of(heap, Letters::Upper, text)?;
     Ok(octets.map(|octets| answer(octets.as_slice())))
 }
 
