@@ -1,9 +1,9 @@
 // What a call is answered, in one line.
 use examples::hex::Hex;
 use examples::refused::Refused;
-use type3::written::Written;
 use refusal::Refusal;
 use std::fmt;
+use type3::written::Written;
 
 // A refusal is an answer here, and no error of the program.
 #[derive(Drop)]

@@ -5,10 +5,10 @@ ghost use Rattle.timing.specs.Answers.{to_event, count};
 
 use crate::answer::Answer;
 use crate::room::Room;
-use type3::written::Written;
 use refusal::Refusal;
 use sending::sender::Sender;
 use type3::kind::Kind;
+use type3::written::Written;
 
 // What stands in a buffer before a packet is written to it.
 const UNWRITTEN: u8 = 0xee;

@@ -2,12 +2,12 @@
 use examples::hex::Hex;
 use examples::refused::Refused;
 use examples::wide::Mark;
-use type3::written::Written;
 use kinds::cas::CasBits;
 use kinds::digit::Digit;
 use refusal::Refusal;
 use std::fmt;
 use type3::payload::Payload;
+use type3::written::Written;
 
 // A refusal is an answer here, and no error of the program.
 #[derive(Drop)]

@@ -2,7 +2,6 @@
 use crate::answer::Answer;
 use examples::bits::bits_of;
 use examples::wide::{Mark, Wide};
-use type3::written::Written;
 use kinds::cas::{Cas, CasBits};
 use kinds::digit::Digit;
 use kinds::digits::Digits;
@@ -11,6 +10,7 @@ use type3::bounded::{Redundancy, Stamp};
 use type3::kind::Kind;
 use type3::payload::Payload;
 use type3::writing::write_payload;
+use type3::written::Written;
 
 // The two numbers at the head of a payload, and its message.
 #[derive(Clone, Copy)]
