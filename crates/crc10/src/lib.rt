@@ -18,13 +18,21 @@ fn ten_bits(high: u16, low: u8) -> u16
     (high & 3) << 8 | u16::from(low)
 }
 
-// The remainder of all the octets' bits, as one polynomial.
+// The remainder of all the octets' bits, as one polynomial. (Every payload that is read has five octets or more: the first five
+// need no loop.)
 fn remainder_of(octets: &[u8]) -> Remainder
     ensures { result ≡ remainder (bits octets.now) }
 {
-    octets
-        .iter()
-        .fold(Remainder::zero(), |rest, &octet| rest.after(octet))
+    match octets {
+        [a, b, c, d, e, rest @ ..] => Remainder::zero()
+            .after(*a)
+            .after(*b)
+            .after(*c)
+            .after(*d)
+            .after(*e)
+            .after_all(rest),
+        _ => Remainder::zero().after_all(octets),
+    }
 }
 
 // The number in a payload's last ten bits, or in all of its bits where it has fewer.

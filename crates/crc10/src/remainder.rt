@@ -1,7 +1,7 @@
 // Division octet by octet.
 ghost use Rattle.std.specs.Prelude.{◌≡◌};
 ghost use Rattle.crc10.specs.Division.{divide_on};
-ghost use Rattle.crc10.specs.Check.{octet_bits};
+ghost use Rattle.crc10.specs.Check.{bits, octet_bits};
 
 use crate::table::TABLE;
 use crate::ten_bits;
@@ -41,6 +41,13 @@ impl Remainder {
         Remainder {
             value: TABLE[usize::from(self.value >> 2)] ^ ten_bits(self.value, octet),
         }
+    }
+
+    // What is left after all bits of some octets too.
+    pub fn after_all(self, octets: &[u8]) -> Remainder
+        ensures { result ≡ divide_on self (bits octets.now) }
+    {
+        octets.iter().fold(self, |rest, &octet| rest.after(octet))
     }
 
     pub fn get(self) -> u16
