@@ -59,10 +59,10 @@ impl Profile {
 }
 
 impl Entry {
-    // Whether it has packets with this UUI and length.
+    // Whether it has packets with this UUI and length. (The length is asked first, since entries more often differ in it.)
     fn has(self, uui: u16, length: usize) -> bool
         ensures { result ≡ has self uui length }
     {
-        self.first <= uui && uui <= self.last && usize::from(self.length) == length
+        usize::from(self.length) == length && self.first <= uui && uui <= self.last
     }
 }
