@@ -1,0 +1,22 @@
+// A lap: a fresh end, and every packet of a list arrives.
+use crate::checksum::{add, of_answer, of_force};
+use crate::list::List;
+use kinds::cas::Cas;
+use kinds::digits::Digits;
+use std::alloc::Global;
+use trunk::answer::Which;
+use trunk::set_up::SetUp;
+
+// The checksum of the answers, and of what is in force at the end.
+pub fn lap(heap: Global, list: &List) -> anyhow::Result<u64> {
+    let mut set_up = SetUp::new(heap)?;
+    set_up.load(heap, list.entries.as_slice())?;
+    let mut end = set_up.start::<Digits, Cas>();
+    let mut sum = 0;
+    for packet in &list.packets {
+        let answer = end.arrive(packet.time, packet.uui, packet.octets.as_slice());
+        sum = add(sum, of_answer(answer));
+    }
+    let sum = add(sum, of_force(end.in_force(Which::First)));
+    Ok(add(sum, of_force(end.in_force(Which::Second))))
+}
