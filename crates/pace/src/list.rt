@@ -1,6 +1,6 @@
 // A list of arrivals, and the profile that they arrive under.
 use anyhow::Context;
-use examples::hex::octets_of;
+use examples::hex::{Letters, octets_of};
 use profile::entry::Entry;
 use std::alloc::Global;
 use std::io::{BufRead, BufReader};
@@ -50,7 +50,7 @@ impl List {
             [time, uui, octets] => self.packets.push(Packet {
                 time: time.parse::<u64>()?,
                 uui: uui.parse::<u16>()?,
-                octets: octets_of(heap, octets)?.context("these are no octets")?,
+                octets: octets_of(heap, Letters::Upper, octets)?.context("these are no octets")?,
             })?,
             _ => anyhow::bail!("a line has three words, or six of an entry"),
         }
