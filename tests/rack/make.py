@@ -524,9 +524,11 @@ def other_lines():
     for line in WHOLE:
         words = line.split(" ")
         for wrong in (f" {line}", f"{line} ", f"{line}\r", f"{line}\t", line.upper(), line.capitalize(), f"{line} 0", f"{line} -",
-                      line.replace(" ", "  ", 1) + " ", line.replace(" ", "\t", 1) + "\t",
                       f"\ufeff{line}", f"{line}\u00a0", f"{line};", f"{words[0]}s {line}", f"\r{line}"):
             bad(wrong)
+        for place in range(1, len(words)):
+            for between in ("  ", "\t", "", " \t"):
+                bad(between.join([" ".join(words[:place]), " ".join(words[place:])]))
         for short in range(len(words)):
             if " ".join(words[:short]) not in WHOLE:
                 bad(" ".join(words[:short]))
