@@ -489,6 +489,8 @@ TOO_GREAT = {"INDEX": 256, "FORMAT": 256, "FIRST": 65536, "LAST": 65536, "LENGTH
              "ROOM": 2**64, "TYPE": 256, "CODE": 256, "LEVEL": 128, "UUI": 65536, "A": 2, "B": 2, "C": 2, "D": 2}
 WHOLE = ["entry - 1 0 7 40 5 5", "load", "start", "stop", "audio 5000 0 40", "event digit 5000 0 5 -10", "event cas 5000 1 0 1 0", "due digit 5000 6",
          "due cas 5000 5", "arrive 5000 24 00000a050aeb", "force digit", "force cas"]
+# what an end in set-up does not allow
+STOPPED = ("stop", "force cas", "audio 70 0 40", "event digit 70 9 0 0", "event cas 70 1 1 1 1", "due digit 70 0", "arrive 70 99 -")
 
 
 def bad(line):
@@ -521,18 +523,22 @@ def other_lines():
     """Blanks, letters, words and octets that make a line none."""
     for line in WHOLE:
         words = line.split(" ")
-        for wrong in (f" {line}", f"{line} ", f"{line}\r", f"{line}\t", line.upper(), line.capitalize(), f"{line} 0", f"{line} -", line.replace(" ", "  ", 1) + " ",
-                      line.replace(" ", "\t", 1) + "\t", f"\ufeff{line}", f"{line}\u00a0", f"{line};", f"{words[0]}s {line}", f"\r{line}"):
+        for wrong in (f" {line}", f"{line} ", f"{line}\r", f"{line}\t", line.upper(), line.capitalize(), f"{line} 0", f"{line} -",
+                      f"\ufeff{line}", f"{line}\u00a0", f"{line};", f"{words[0]}s {line}", f"\r{line}"):
             bad(wrong)
+        for place in range(1, len(words)):
+            for between in ("  ", "\t", "", " \t"):
+                bad(between.join([" ".join(words[:place]), " ".join(words[place:])]))
         for short in range(len(words)):
             if " ".join(words[:short]) not in WHOLE:
                 bad(" ".join(words[:short]))
         for octets in (b"\xff", b"\xc3", b"\x80", b"\xed\xa0\x80"):
             bad(line.encode() + octets)
             bad(octets + b" " + line.encode())
-    for line in ("  ", "\t", "\r", "-", "0", "help", "quit", "# load", "new", "due", "due 5000 6", "due audio 5000 6", "due digit cas 5000 6", "force", "force audio", "force digit cas",
-                 "event", "event audio 5000 0", "event 5000 0 5 -10", "event digit", "event digit 5000", "event cas 5000 1010", "event cas 5000 1 0 1", "event cas 5000 true 0 1 0",
-                 "arrive 5000 24", "arrive 5000", "arrive -", "entry", "entry -", "entry - - 0 7 40 5 5", "load 1", "start A", "é", "lo\u0000ad".replace("\u0000", "\u0001")):
+    for line in ("  ", "\t", "\r", "-", "0", "help", "quit", "# load", "new", "due", "due 5000 6", "due audio 5000 6", "due digit cas 5000 6",
+                 "force", "force audio", "force digit cas", "event", "event audio 5000 0", "event 5000 0 5 -10", "event digit", "event digit 5000",
+                 "event cas 5000 1010", "event cas 5000 1 0 1", "event cas 5000 true 0 1 0", "arrive 5000 24", "arrive 5000", "arrive -",
+                 "entry", "entry -", "entry - - 0 7 40 5 5", "load 1", "start A", "é", "lo\u0001ad"):
         bad(line)
 
 
@@ -551,7 +557,7 @@ def errors():
             no_numbers(line, next(word for word in line.split(" ") if word.isupper()))
         octets_malformed()
         other_lines()
-        for line in (("load", "start") if state else ("stop", "force cas", "audio 70 0 40", "event digit 70 9 0 0", "event cas 70 1 1 1 1", "due digit 70 0", "arrive 70 99 -")):
+        for line in (STOPPED, ("load", "start"))[state]:
             bad(line)
     audio(75, 0, 40, "label 7")
     due("cas", 70, 5)
@@ -582,7 +588,8 @@ class Network:
     def sent(self, now, uui, octets, span):
         """Some are held for less than half a span, so that they come in another order; some for longer, and no rule holds for those."""
         for _ in range(rng.choice([0, 1, 1, 1, 1, 2])):
-            held = rng.choice([0, 0, 0, 1, rng.randrange((span + 1) // 2), rng.randrange((span + 1) // 2), span // 2, span, rng.randrange(5 * span), rng.choice([0, 0, 0, HOUR])])
+            near, far = (rng.randrange((span + 1) // 2) for _ in range(2)), (span // 2, span, rng.randrange(5 * span), rng.choice([0, 0, 0, HOUR]))
+            held = rng.choice([0, 0, 0, 1, *near, *far])
             heapq.heappush(self.waiting, (now + self.age + held, next(self.number), uui, octets))
 
     def step(self, now):
@@ -777,7 +784,8 @@ def is_enough():
 
 
 def main():
-    for part in (as_it_begins, refused_profiles, odd_profiles, collected_apart, stopped_and_started, audio_refused, digits_made, copies_and_refreshes, sending_refused,
+    for part in (as_it_begins, refused_profiles, odd_profiles, collected_apart, stopped_and_started,
+                 audio_refused, digits_made, copies_and_refreshes, sending_refused,
                  rows, known_octets, arrivals_refused, ties_and_the_last_position, classes, hours_of_keys, errors, walks, all_arrive, talk):
         part()
     is_enough()
