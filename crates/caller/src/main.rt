@@ -12,6 +12,9 @@ use trunk::service::InService;
 use trunk::set_up::SetUp;
 use type3::payload::Either;
 
+#[cfg(test)]
+mod tests;
+
 // In dBm0.
 const LEVEL: i8 = -10;
 

@@ -1,0 +1,16 @@
+// Two ends and a list of calls run, where there is memory.
+use kinds::digit::Digit;
+use network::sample::sample;
+use network::side::Side;
+use std::test::Fail;
+use trunk::answer::Which;
+use type3::payload::Either;
+
+#[test]
+fn the_sample_runs(rt: HostRuntime) -> Result<(), Fail> {
+    let run = sample(rt.alloc())?;
+    assert_eq!(rt; run.answers.len(), 27);
+    let heard = run.ends.end(Side::Far).in_force(Which::First);
+    assert_eq!(rt; heard, Some(Either::First(Digit::of_key('7', -10)?)));
+    Ok(())
+}
