@@ -1,1 +1,3 @@
+pub mod Dialling
+pub mod Network
 pub mod Heard

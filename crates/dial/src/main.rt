@@ -1,127 +1,84 @@
-// Dials a number and talks: each key, and the end of its tone, goes out as a type 3 payload and is read back, and the audio
-// of two talk spurts is labelled.
+// One call from its beginning to its end, over a network that loses, repeats, delays, reorders and spoils: what was sent, what
+// arrived, how each arrival was answered, and what the far end made of it.
 #![tactic(auto)]
 
+use carriage::{carry, merged};
 use examples::hex::Hex;
-use exchange::pass;
-use kinds::digit::{Digit, TONE_OFF};
+use heard::tones_heard;
+use kinds::cas::Cas;
 use kinds::digits::Digits;
-use kinds::system::System;
-use refusal::Refusal;
-use sending::sender::Sender;
+use network::side::Side;
+use network::simulate::{Run, simulate};
+use profile::load::LoadError;
+use script::{Asked, Script};
+use show::{show_tones, show_turns};
+use std::alloc::Global;
 use std::env;
-use talk::talk;
+use trunk::answer::Which;
+use trunk::set_up::SetUp;
 use type3::reading::read_payload;
+use words::Said;
 
-mod exchange;
-mod talk;
+mod carriage;
+mod heard;
+mod script;
+mod show;
+mod words;
 
 // What is dialled where no argument says otherwise: two keys, a character that is no key, and a third key.
 const NUMBER: &str = "5#x0";
-
-// In dBm0.
-const LEVEL: i8 = -10;
-
-// In milliseconds: from key to key, and how long a key is held.
-const KEY_TIME: u64 = 10_000;
-
-const TONE_TIME: u64 = 600;
 
 fn main(rt: HostRuntime) -> anyhow::Result<()> {
     run(&rt)
 }
 
 fn run(rt: &HostRuntime) -> anyhow::Result<()> {
+    let heap = rt.alloc();
     let mut args = env::args(rt)?;
     let _program = args.next();
     let number = args.next();
-    let sender = Sender::<Digits>::new();
-    Line { rt, sender }.dial(number.as_ref().map_or(NUMBER, |number| number.as_str()))?;
+    let script = Script::of(rt, number.as_ref().map_or(NUMBER, |number| number.as_str()))?;
+    // what the near end sends, and then the same with what arrives of it
+    let calls = script.calls(heap)?;
+    let sent = played(heap, calls.as_slice())?;
+    let parcels = carry(heap, calls.as_slice(), sent.answers.as_slice())?;
+    let turns = merged(heap, calls.as_slice(), parcels.as_slice())?;
+    let run = played(heap, turns.as_slice())?;
+    let counts = show_turns(rt, turns.as_slice(), run.answers.as_slice())?;
+    let heard = tones_heard(heap, run.answers.as_slice())?;
+    show_tones(rt, "dialled", script.tones())?;
+    show_tones(rt, "heard", heard.as_slice())?;
+    if heard.as_slice() == script.tones() {
+        println!(rt; "heard as dialled")?;
+    } else {
+        println!(rt; "not heard as dialled")?;
+    }
+    match run.ends.end(Side::Far).in_force(Which::Second) {
+        Some(bits) => println!(rt; "in force at the far end: {}", Said(bits))?,
+        None => println!(rt; "in force at the far end: nothing")?,
+    }
     hostile(rt)?;
-    talk(rt)
+    println!(rt; "{counts}")?;
+    Ok(())
 }
 
-// A stream of digits over a perfect line, and where it is shown.
-#[derive(Drop)]
-struct Line<'a> {
-    rt: &'a HostRuntime,
-    sender: Sender<Digits>,
+// A list of calls on two new ends.
+fn played(heap: Global, turns: &[Asked]) -> Result<Run<Digits, Cas>, LoadError> {
+    let near = SetUp::new(heap)?;
+    let far = SetUp::new(heap)?;
+    Ok(simulate::<Digits, Cas>(heap, near, far, turns)?)
 }
 
-impl<'a> Line<'a> {
-    // Each key of the number, and what is due until the next.
-    fn dial(&mut self, number: &str) -> anyhow::Result<()> {
-        for (place, key) in number.chars().enumerate() {
-            let time = KEY_TIME.saturating_mul(place as u64);
-            match Digit::of_key(key, LEVEL) {
-                Ok(digit) => self.press(key, time, digit)?,
-                Err(refusal) => println!(self.rt; "key {key}: {refusal}")?,
-            }
-        }
-        Ok(())
-    }
-
-    // A key is pressed, held and let go.
-    fn press(&mut self, key: char, time: u64, digit: Digit) -> anyhow::Result<()> {
-        println!(self.rt; "key {key} at {time}")?;
-        self.tone(time, digit, TONE_TIME)?;
-        let end = time.saturating_add(TONE_TIME);
-        match Digit::new(System::Dtmf.into(), TONE_OFF, LEVEL) {
-            Ok(off) => self.tone(end, off, KEY_TIME - TONE_TIME),
-            Err(refusal) => refused(self.rt, refusal),
-        }
-    }
-
-    // An event, and what is due at each millisecond for a while.
-    fn tone(&mut self, time: u64, digit: Digit, length: u64) -> anyhow::Result<()> {
-        if let Err(refusal) = self.sender.event(time, digit) {
-            return refused(self.rt, refusal);
-        }
-        for moment in time..time.saturating_add(length) {
-            self.ask(moment)?;
-        }
-        Ok(())
-    }
-
-    // What is due at a time, and what the far end reads.
-    fn ask(&mut self, time: u64) -> anyhow::Result<()> {
-        let mut octets = [0u8; 6];
-        match pass(&mut self.sender, time, &mut octets) {
-            Ok(Some(payload)) => {
-                let sent = Hex(&octets);
-                let redundancy = payload.redundancy.get();
-                let stamp = payload.stamp.get();
-                let code = payload.message.code();
-                let level = payload.message.level();
-                println!(self.rt;
-                    "  {time}: {sent} reads code {code}, level {level}, redundancy {redundancy}, stamp {stamp}"
-                )?;
-                Ok(())
-            }
-            Ok(None) => Ok(()),
-            Err(refusal) => refused(self.rt, refusal),
-        }
-    }
-}
-
-// Octets that no honest far end sends: a spoiled octet, and too few.
+// Octets that no honest end sends: a spoiled octet, and too few.
 fn hostile(rt: &HostRuntime) -> anyhow::Result<()> {
     read(rt, &[0x00, 0x00, 0x0a, 0x05, 0x0a, 0xea])?;
     read(rt, &[0x00, 0x00, 0x0a, 0x05])
 }
 
 fn read(rt: &HostRuntime, octets: &[u8]) -> anyhow::Result<()> {
-    println!(rt; "octets {}", Hex(octets))?;
     match read_payload::<Digits>(octets) {
-        Ok(_) => {
-            println!(rt; "  read")?;
-            Ok(())
-        }
-        Err(refusal) => refused(rt, refusal),
+        Ok(_) => println!(rt; "octets {}: read", Hex(octets))?,
+        Err(refusal) => println!(rt; "octets {}: {refusal}", Hex(octets))?,
     }
-}
-
-fn refused(rt: &HostRuntime, refusal: Refusal) -> anyhow::Result<()> {
-    println!(rt; "  {refusal}")?;
     Ok(())
 }

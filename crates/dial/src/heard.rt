@@ -1,0 +1,82 @@
+// What the far end makes of the digits that it hears.
+ghost use Rattle.std.specs.Prelude.{◌≡◌};
+ghost use Rattle.dial.specs.Heard.{silent, ends, after, is_new};
+
+use crate::script::{Reply, Tone};
+use kinds::digit::{Digit, TONE_OFF};
+use network::call::Answer;
+use placing::receiver::Class;
+use placing::stream::Told;
+use std::alloc::{AllocError, Global};
+use trunk::answer::Arrived;
+
+// A key whose tone is on, and where it began.
+#[derive(Clone, Copy, Debug, PartialEq, Eq)]
+pub struct Begun {
+    pub key: Digit,
+    pub at: u64,
+}
+
+// The tone that is on, if one is, and where the one before ended. Times are positions of news.
+#[derive(Clone, Copy, Debug, PartialEq, Eq)]
+pub struct Ear {
+    on: Option<Begun>,
+    ended: u64,
+}
+
+impl Ear {
+    pub fn new() -> Ear
+        ensures { result ≡ silent }
+    {
+        Ear { on: None, ended: 0 }
+    }
+
+    // A new digit at a position ends the tone that is on, which is answered, and begins one if it is a key.
+    pub fn hear(&mut self, digit: Digit, position: u64) -> Option<Tone>
+        ensures value { result ≡ ends self.old position }
+        ensures after { self.new ≡ after self.old digit position }
+    {
+        let tone = self.on.map(|on| Tone {
+            key: on.key,
+            pause: on.at.saturating_sub(self.ended),
+            held: position.saturating_sub(on.at),
+        });
+        if self.on.is_some() {
+            self.ended = position;
+        }
+        self.on = if digit.code() == TONE_OFF {
+            None
+        } else {
+            Some(Begun {
+                key: digit,
+                at: position,
+            })
+        };
+        tone
+    }
+}
+
+// Whether news says more than that the message in force stays. (A refresh that confirms it is no new key.)
+fn is_new(class: Class) -> bool
+    ensures { result ≡ is_new class }
+{
+    match class {
+        Class::Event | Class::Recovered => true,
+        Class::Confirmed => false,
+    }
+}
+
+// The tones that the answers tell of.
+pub fn tones_heard(heap: Global, answers: &[Reply]) -> Result<Vec<Tone>, AllocError> {
+    let mut tones = Vec::new(heap);
+    let mut ear = Ear::new();
+    for answer in answers {
+        if let Answer::Arrive(Ok(Arrived::First(Told::News(news)))) = answer
+            && is_new(news.class)
+            && let Some(tone) = ear.hear(news.message, news.moved.position)
+        {
+            tones.push(tone)?;
+        }
+    }
+    Ok(tones)
+}

@@ -1,0 +1,221 @@
+// What the caller does, and the calls on the near end that come of it. Times are in milliseconds of its clock.
+ghost use Rattle.std.specs.Prelude.{◌≡◌};
+ghost use Rattle.dial.specs.Dialling.{held, pause_before};
+
+use kinds::cas::CasBits;
+use kinds::digit::{Digit, TONE_OFF};
+use kinds::system::System;
+use network::call::{Answer, Call, LONGEST, Turn};
+use network::side::Side;
+use std::alloc::{AllocError, Global};
+use trunk::answer::Which;
+use type3::payload::Either;
+
+pub type Message = Either<Digit, CasBits>;
+
+// A call, with octets that are lent.
+pub type Asked<'a> = Turn<&'a [u8], Message>;
+
+pub type Reply = Answer<Digit, CasBits>;
+
+// A tone, as a caller makes it or as a listener hears it, and the pause before it.
+#[derive(Clone, Copy, Debug, PartialEq, Eq)]
+pub struct Tone {
+    pub key: Digit,
+    pub pause: u64,
+    pub held: u64,
+}
+
+// An event that the caller brings about.
+#[derive(Clone, Copy)]
+struct Step {
+    time: u64,
+    message: Message,
+}
+
+#[derive(Drop)]
+pub struct Script {
+    tones: Vec<Tone>,
+    steps: Vec<Step>,
+    // the start of each talk spurt
+    spurts: [u64; 2],
+    end: u64,
+}
+
+const OFF_HOOK: CasBits = CasBits {
+    a: true,
+    b: false,
+    c: false,
+    d: false,
+};
+
+const ON_HOOK: CasBits = CasBits {
+    a: false,
+    b: false,
+    c: false,
+    d: false,
+};
+
+// In dBm0.
+const LEVEL: i8 = -10;
+
+const MOST_KEYS: usize = 64;
+
+// How long keys are held, and the pauses after them. After the last of a row comes the first again.
+const HELD: [u64; 5] = [120, 90, 1100, 80, 150];
+
+const PAUSES: [u64; 5] = [70, 12_000, 250, 90, 60];
+
+const OFF_HOOK_TIME: u64 = 1000;
+
+const DIALLING_TIME: u64 = 8000;
+
+// From the last pause to talk, from one spurt to the next, from talk to on-hook, and from that to the end.
+const BEFORE_TALK: u64 = 500;
+
+const SILENCE: u64 = 1000;
+
+const BEFORE_ON_HOOK: u64 = 20_000;
+
+const AFTER_ON_HOOK: u64 = 20;
+
+// The entry of audio, its payload, how long that lasts, and how long a spurt does.
+const ENTRY: usize = 4;
+
+const SPEECH: &[u8] = &[0; 10];
+
+const PACKET_TIME: usize = 5;
+
+const SPURT: u64 = 60;
+
+impl Script {
+    pub fn of(rt: &HostRuntime, number: &str) -> anyhow::Result<Script> {
+        let tones = tones_of(rt, number)?;
+        let off = Digit::new(System::Dtmf.into(), TONE_OFF, LEVEL)?;
+        let mut steps = Vec::new(rt.alloc());
+        steps.push(hook(OFF_HOOK_TIME, OFF_HOOK))?;
+        let mut time = DIALLING_TIME;
+        for tone in &tones {
+            time = time.saturating_add(tone.pause);
+            steps.push(digit(time, tone.key))?;
+            time = time.saturating_add(tone.held);
+            steps.push(digit(time, off))?;
+        }
+        let first = time
+            .saturating_add(pause_before(tones.len()))
+            .saturating_add(BEFORE_TALK);
+        let second = first.saturating_add(SPURT + SILENCE);
+        let on_hook = second.saturating_add(SPURT + BEFORE_ON_HOOK);
+        steps.push(hook(on_hook, ON_HOOK))?;
+        Ok(Script {
+            tones,
+            steps,
+            spurts: [first, second],
+            end: on_hook.saturating_add(AFTER_ON_HOOK),
+        })
+    }
+
+    // The tones that are dialled.
+    pub fn tones(&self) -> &[Tone] {
+        self.tones.as_slice()
+    }
+
+    // The calls of the near end: at each fifth millisecond its events, audio, and what is due.
+    pub fn calls(&self, heap: Global) -> Result<Vec<Asked<'static>>, AllocError> {
+        let mut calls = Vec::new(heap);
+        for time in (0..=self.end).step_by(PACKET_TIME) {
+            for step in self.steps.iter().filter(|step| step.time == time) {
+                let message = step.message;
+                calls.push(near(Call::Event { time, message }))?;
+            }
+            if self.talks_at(time) {
+                calls.push(near(Call::Audio {
+                    time,
+                    place: ENTRY,
+                    payload: SPEECH,
+                }))?;
+            }
+            for which in [Which::First, Which::Second] {
+                calls.push(near(Call::Due {
+                    which,
+                    time,
+                    room: LONGEST,
+                }))?;
+            }
+        }
+        Ok(calls)
+    }
+
+    // Whether audio is sent at a time.
+    fn talks_at(&self, time: u64) -> bool {
+        self.spurts.iter().any(|start| *start <= time && time < start.saturating_add(SPURT))
+    }
+}
+
+pub fn time_of(turn: &Asked) -> u64 {
+    match turn.call {
+        Call::Audio { time, .. }
+        | Call::Event { time, .. }
+        | Call::Due { time, .. }
+        | Call::Arrive { time, .. } => time,
+    }
+}
+
+fn near(call: Call<&'static [u8], Message>) -> Asked<'static> {
+    Turn {
+        side: Side::Near,
+        call,
+    }
+}
+
+fn hook(time: u64, bits: CasBits) -> Step {
+    Step {
+        time,
+        message: Either::Second(bits),
+    }
+}
+
+fn digit(time: u64, digit: Digit) -> Step {
+    Step {
+        time,
+        message: Either::First(digit),
+    }
+}
+
+// The tones of a number. A character that is no key is told, and left out.
+fn tones_of(rt: &HostRuntime, number: &str) -> anyhow::Result<Vec<Tone>> {
+    let mut tones = Vec::new(rt.alloc());
+    for character in number.chars() {
+        let place = tones.len();
+        match Digit::of_key(character, LEVEL) {
+            Err(refusal) => println!(rt; "key {character}: {refusal}")?,
+            Ok(_) if place == MOST_KEYS => {
+                println!(rt; "only the first {MOST_KEYS} keys are dialled")?;
+                break;
+            }
+            Ok(key) => tones.push(Tone {
+                key,
+                pause: pause_before(place),
+                held: held(place),
+            })?,
+        }
+    }
+    Ok(tones)
+}
+
+// How long the key at a place of the number is held.
+fn held(place: usize) -> u64
+    ensures { result ≡ held place }
+{
+    HELD[place % 5]
+}
+
+// The pause before the key at a place: that after the key before.
+fn pause_before(place: usize) -> u64
+    ensures { result ≡ pause_before place }
+{
+    match place.checked_sub(1) {
+        Some(before) => PAUSES[before % 5],
+        None => 0,
+    }
+}

@@ -1,0 +1,212 @@
+// The lines of the call, and how often it came to what.
+use crate::carriage::TYPE_3;
+use crate::script::{Asked, Reply, Tone, time_of};
+use crate::words::{Carried, Heard, Packet, Said, Stream};
+use kinds::cas::CasBits;
+use kinds::digit::Digit;
+use network::call::{Answer, Call};
+use network::side::Side;
+use placing::receiver::Class;
+use placing::stream::Told;
+use std::fmt;
+use trunk::answer::Arrived;
+
+// What came of a packet: it was sent, and arrived or was lost, or was answered where it arrived.
+#[derive(Clone, Copy, Debug, PartialEq, Eq)]
+pub enum Outcome {
+    Sent,
+    Lost,
+    Event,
+    Confirmed,
+    Recovered,
+    Audio,
+    Repeat,
+    Late,
+    Refused,
+}
+
+const SENT: &[Outcome] = &[Outcome::Sent, Outcome::Lost];
+
+const NEWS: &[Outcome] = &[
+    Outcome::Event,
+    Outcome::Confirmed,
+    Outcome::Recovered,
+    Outcome::Audio,
+];
+
+const NO_NEWS: &[Outcome] = &[Outcome::Repeat, Outcome::Late, Outcome::Refused];
+
+#[derive(Drop)]
+pub struct Counts {
+    outcomes: Vec<Outcome>,
+}
+
+impl Counts {
+    fn of(&self, outcome: Outcome) -> usize {
+        self.of_any(&[outcome])
+    }
+
+    fn of_any(&self, outcomes: &[Outcome]) -> usize {
+        self.outcomes
+            .iter()
+            .filter(|outcome| outcomes.contains(outcome))
+            .count()
+    }
+}
+
+impl fmt::Display for Counts {
+    fn fmt<W: fmt::Write>(&self, f: &mut fmt::Formatter<W>) -> fmt::Result {
+        let sent = self.of_any(SENT);
+        let lost = self.of(Outcome::Lost);
+        let news = self.of_any(NEWS);
+        let arrived = news.saturating_add(self.of_any(NO_NEWS));
+        write!(
+            f,
+            "sent {sent} packets, {lost} of them lost; {arrived} arrived: {news} news ("
+        )?;
+        let event = self.of(Outcome::Event);
+        let confirmed = self.of(Outcome::Confirmed);
+        let recovered = self.of(Outcome::Recovered);
+        let audio = self.of(Outcome::Audio);
+        write!(
+            f,
+            "{event} event, {confirmed} confirmed, {recovered} recovered, {audio} audio), "
+        )?;
+        let repeat = self.of(Outcome::Repeat);
+        let late = self.of(Outcome::Late);
+        let refused = self.of(Outcome::Refused);
+        write!(f, "{repeat} repeat, {late} late, {refused} refused")
+    }
+}
+
+// What an answer comes to, of a packet that is lost or not.
+fn outcome_of(answer: &Reply, lost: bool) -> Option<Outcome> {
+    match answer {
+        Answer::Audio(Ok(_)) | Answer::Due(Ok(Some(_))) if lost => Some(Outcome::Lost),
+        Answer::Audio(Ok(_)) | Answer::Due(Ok(Some(_))) => Some(Outcome::Sent),
+        Answer::Arrive(Ok(arrived)) => Some(outcome_of_arrived(arrived)),
+        Answer::Arrive(Err(_)) => Some(Outcome::Refused),
+        _ => None,
+    }
+}
+
+fn outcome_of_arrived(arrived: &Arrived<Digit, CasBits>) -> Outcome {
+    match arrived {
+        Arrived::Audio(Told::News(_)) => Outcome::Audio,
+        Arrived::First(Told::News(news)) => outcome_of_class(news.class),
+        Arrived::Second(Told::News(news)) => outcome_of_class(news.class),
+        Arrived::Audio(Told::Repeat)
+        | Arrived::First(Told::Repeat)
+        | Arrived::Second(Told::Repeat) => Outcome::Repeat,
+        Arrived::Audio(Told::Late) | Arrived::First(Told::Late) | Arrived::Second(Told::Late) =>
+            Outcome::Late,
+    }
+}
+
+fn outcome_of_class(class: Class) -> Outcome {
+    match class {
+        Class::Event => Outcome::Event,
+        Class::Confirmed => Outcome::Confirmed,
+        Class::Recovered => Outcome::Recovered,
+    }
+}
+
+// A call and its answer, in a line.
+#[derive(Drop)]
+struct Line<'a> {
+    turn: &'a Asked<'a>,
+    answer: &'a Reply,
+    // no copy of its packet arrives
+    lost: bool,
+}
+
+impl<'a> fmt::Display for Line<'a> {
+    fn fmt<W: fmt::Write>(&self, f: &mut fmt::Formatter<W>) -> fmt::Result {
+        match self.turn.side {
+            Side::Near => write!(f, "near")?,
+            Side::Far => write!(f, "far ")?,
+        }
+        let time = time_of(self.turn);
+        write!(f, "{time:>9}  ")?;
+        match (self.turn.call, self.answer) {
+            (Call::Event { message, .. }, Answer::Event(Ok(()))) => write!(
+                f,
+                "event  {}",
+                Said(message)
+            ),
+            (Call::Event { message, .. }, Answer::Event(Err(refusal))) => {
+                write!(f, "event  {}: {refusal}", Said(message))
+            }
+            (Call::Audio { place, payload, .. }, Answer::Audio(Ok(uui))) => {
+                let packet = Packet {
+                    uui: *uui,
+                    octets: payload,
+                };
+                write!(f, "sends  {packet}: audio of entry {place}")?;
+                self.end(f)
+            }
+            (Call::Audio { place, .. }, Answer::Audio(Err(refusal))) => {
+                write!(f, "sends  audio of entry {place}: {refusal}")
+            }
+            (Call::Due { .. }, Answer::Due(Ok(Some(octets)))) => {
+                let octets = octets.as_slice();
+                let packet = Packet {
+                    uui: TYPE_3,
+                    octets,
+                };
+                write!(f, "sends  {packet}: {}", Carried(octets))?;
+                self.end(f)
+            }
+            (Call::Due { which, .. }, Answer::Due(Err(refusal))) => {
+                write!(f, "asks   {}: {refusal}", Stream(which))
+            }
+            (Call::Arrive { uui, octets, .. }, Answer::Arrive(answer)) => {
+                let packet = Packet { uui, octets };
+                write!(f, "hears  {packet}: {}", Heard(answer))
+            }
+            _ => Ok(()),
+        }
+    }
+}
+
+impl<'a> Line<'a> {
+    fn end<W: fmt::Write>(&self, f: &mut fmt::Formatter<W>) -> fmt::Result {
+        if self.lost {
+            write!(f, ", lost")
+        } else {
+            Ok(())
+        }
+    }
+}
+
+// Whether a call is the arrival of a copy of what the call at a place made.
+fn is_copy(turn: &Asked, place: usize) -> bool {
+    match turn.call {
+        Call::Arrive { copies, .. } => copies == Some(place),
+        _ => false,
+    }
+}
+
+// Each call that came to something, in its line.
+pub fn show_turns(rt: &HostRuntime, turns: &[Asked], answers: &[Reply]) -> anyhow::Result<Counts> {
+    let mut outcomes = Vec::new(rt.alloc());
+    for (place, (turn, answer)) in turns.iter().zip(answers).enumerate() {
+        if let Answer::Due(Ok(None)) = answer {
+            continue;
+        }
+        let lost = !turns.iter().any(|turn| is_copy(turn, place));
+        println!(rt; "{}", Line { turn, answer, lost })?;
+        if let Some(outcome) = outcome_of(answer, lost) {
+            outcomes.push(outcome)?;
+        }
+    }
+    Ok(Counts { outcomes })
+}
+
+// The tones of a side, in a line each.
+pub fn show_tones(rt: &HostRuntime, word: &str, tones: &[Tone]) -> anyhow::Result<()> {
+    for tone in tones {
+        println!(rt; "{word:7}  {tone}")?;
+    }
+    Ok(())
+}

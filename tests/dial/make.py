@@ -1,0 +1,285 @@
+#!/usr/bin/python3
+"""The call that docs/dial.md describes, made from the documents alone and not by the program.
+
+Writes crates/dial/stdout. The answers are those of the oracle.
+"""
+
+import sys
+from collections import Counter
+from pathlib import Path
+from typing import NamedTuple
+
+sys.dont_write_bytecode = True
+ROOT = Path(__file__).resolve().parents[2]
+sys.path.insert(0, str(ROOT / "tests" / "oracle"))
+from end import EXAMPLES, KINDS, TONE_OFF, AudioNews, CasBits, Digit, End, MessageNews, Nothing, Refused, Told, new_digit, read
+from law import FAR, NEAR, Arrive, Audio, Due, Event, answer_of
+
+PROFILE = EXAMPLES["A"]
+KEYS = "0123456789*#ABCD"
+MOST_KEYS = 64
+LEVEL = -10
+DIGITS, CAS = 0, 1
+STREAMS = {"digit": "digits", "cas": "bits", "audio": "audio"}
+HELD = [120, 90, 1100, 80, 150]
+PAUSES = [70, 12000, 250, 90, 60]
+AHEAD = 5_000_000
+
+
+# ---- the caller
+
+class Tone(NamedTuple):
+    key: int
+    pause: int
+    held: int
+
+
+def keys_of(number):
+    """The codes of the number's keys, and a line for each character that is none."""
+    codes, lines = [], []
+    for character in number:
+        if character not in KEYS:
+            lines.append(f"key {character}: refused with 18")
+        elif len(codes) == MOST_KEYS:
+            lines.append(f"only the first {MOST_KEYS} keys are dialled")
+            break
+        else:
+            codes.append(KEYS.index(character))
+    return codes, lines
+
+
+def script(codes):
+    """The calls of the near end, and the tones as the caller makes them."""
+    events = {1000: Event(CAS, 1000, CasBits(1, 0, 0, 0))}
+    tones, time, pause = [], 8000, 0
+    for i, code in enumerate(codes):
+        held = HELD[i % 5]
+        tones.append(Tone(code, pause, held))
+        events[time] = Event(DIGITS, time, new_digit(0, code, LEVEL))
+        events[time + held] = Event(DIGITS, time + held, new_digit(0, TONE_OFF, LEVEL))
+        pause = PAUSES[i % 5]
+        time += held + pause
+    first = time + 500
+    second = first + 12 * 5 + 1000
+    on_hook = second + 12 * 5 + 20000
+    events[on_hook] = Event(CAS, on_hook, CasBits(0, 0, 0, 0))
+    talk = {start + 5 * i for start in (first, second) for i in range(12)}
+    calls = []
+    for now in range(0, on_hook + 21, 5):
+        calls += [events[now]] if now in events else []
+        calls += [Audio(now, 4, bytes(10))] if now in talk else []
+        calls += [Due(DIGITS, now, 12), Due(CAS, now, 12)]
+    return calls, tones
+
+
+# ---- the network
+
+class Parcel(NamedTuple):
+    """What arrives, at a time of the near clock: a copy of the packet that a call made, or a foreign packet."""
+
+    time: int
+    uui: int
+    octets: bytes
+    call: int | None
+
+
+def spoiled(octets):
+    return bytes(octet ^ 1 if place == 2 else octet for place, octet in enumerate(octets))
+
+
+def message_parcels(number, sent, octets, call):
+    time = sent + 40 + sent // 2
+    itself = Parcel(time, 24, octets, call)
+    if number <= 2:
+        return []
+    match number % 8:
+        case 0:
+            return []
+        case 2:
+            return [itself, itself._replace(time=time + 700)]
+        case 4:
+            return [itself._replace(time=time + 1000)]
+        case 6:
+            return [itself._replace(octets=spoiled(octets)), itself._replace(time=time + 20)]
+        case 7:
+            return [itself, Parcel(time, 27, b"", None)]
+    return [itself]
+
+
+def audio_parcels(number, sent, uui, octets, call):
+    time = sent + 30
+    itself = Parcel(time, uui, octets, call)
+    match number % 5:
+        case 1:
+            return []
+        case 2:
+            return [itself, itself._replace(time=time + 3)]
+        case 3:
+            return [itself._replace(time=time + 8)]
+    return [itself]
+
+
+def carried(calls):
+    """What the network makes of what a near end sends at these calls."""
+    near = End(PROFILE)
+    messages = audio = 0
+    parcels = []
+    for place, call in enumerate(calls):
+        answer = answer_of(near, call)
+        if isinstance(call, Due) and isinstance(answer, bytes):
+            parcels += message_parcels(messages, call.time, answer, place)
+            messages += 1
+        elif isinstance(call, Audio) and not isinstance(answer, Refused):
+            parcels += audio_parcels(audio, call.time, answer, call.octets, place)
+            audio += 1
+    return sorted(parcels, key=lambda parcel: parcel.time)
+
+
+def merged(calls, parcels):
+    """The calls of both sides in the order of time, and the place of each call of the near end."""
+    both = [(call.time, 0, place, NEAR, call) for place, call in enumerate(calls)]
+    both += [(parcel.time, 1, place, FAR, parcel) for place, parcel in enumerate(parcels)]
+    both.sort(key=lambda x: x[:3])
+    places = {place: at for at, (_, _, place, side, _) in enumerate(both) if side == NEAR}
+    turns = []
+    for _, _, _, side, what in both:
+        if side == FAR:
+            what = Arrive(what.time + AHEAD, what.uui, what.octets, None if what.call is None else places[what.call])
+        turns.append((side, what))
+    return turns
+
+
+# ---- the lines
+
+def message_text(message):
+    if isinstance(message, Digit):
+        return "tone-off" if message.code == TONE_OFF else f"key {KEYS[message.code]}"
+    hook = "off-hook" if message.a else "on-hook"
+    return f"bits {message.a}{message.b}{message.c}{message.d} ({hook})"
+
+
+def sent_as(redundancy):
+    return "refresh" if redundancy == 3 else f"copy {redundancy}"
+
+
+def packet_text(uui, octets):
+    return f"UUI {uui}, " + (octets.hex(" ").upper() if uui == 24 else f"{len(octets)} octets")
+
+
+def answer_text(answer):
+    match answer:
+        case Refused():
+            return f"refused with {answer.number}"
+        case Told(what, stream):
+            return f"{what}, {STREAMS[stream]}"
+        case AudioNews(place, elapsed, _):
+            return f"news, audio of entry {place}, {elapsed} ms after the news before"
+        case MessageNews(_, of, redundancy, elapsed, _, message):
+            return f"news, {of}, {message_text(message)}, {sent_as(redundancy)}, {elapsed} ms after the news before"
+
+
+def line(side, time, word, about):
+    return f"{side:4}{time:9}  {word}  {about}"
+
+
+def turn_line(side, call, answer, lost):
+    """The line of a call, or none where nothing was due."""
+    refused = f": {answer_text(answer)}" if isinstance(answer, Refused) else ""
+    end = ", lost" if lost else ""
+    match call:
+        case Event(_, time, message):
+            return line(side, time, "event", message_text(message) + refused)
+        case Audio(time, place, octets):
+            if refused:
+                return line(side, time, "sends", f"audio of entry {place}{refused}")
+            return line(side, time, "sends", f"{packet_text(answer, octets)}: audio of entry {place}{end}")
+        case Due(which, time, _):
+            if refused:
+                return line(side, time, "asks ", f"{STREAMS[KINDS[which].name]}{refused}")
+            if isinstance(answer, Nothing):
+                return None
+            _, payload = read(KINDS, answer)
+            said = f"{message_text(payload.message)}, {sent_as(payload.redundancy)}"
+            return line(side, time, "sends", f"{packet_text(24, answer)}: {said}{end}")
+        case Arrive(time, uui, octets, _):
+            return line(side, time, "hears", f"{packet_text(uui, octets)}: {answer_text(answer)}")
+
+
+def is_packet(answer):
+    return isinstance(answer, (bytes, int))
+
+
+def tones_heard(answers):
+    """The tones, by the positions of news."""
+    tones, on, ended = [], None, 0
+    for news in answers:
+        if not isinstance(news, MessageNews) or news.stream != "digit" or news.of == "confirmed":
+            continue
+        if on is not None:
+            key, began = on
+            tones.append(Tone(key, began - ended, news.position - began))
+            ended = news.position
+        on = None if news.message.code == TONE_OFF else (news.message.code, news.position)
+    return tones
+
+
+def tone_lines(word, tones):
+    return [f"{word:7}  key {KEYS[key]} for {held:5} ms, after a pause of {pause:5} ms" for key, pause, held in tones]
+
+
+def hostile(octets):
+    try:
+        read(KINDS[:1], octets)
+        said = "read"
+    except Refused as refused:
+        said = answer_text(refused)
+    return f"octets {octets.hex(' ').upper()}: {said}"
+
+
+def summary(sent, lost, answers):
+    """The packets that were sent, and the answers to those that arrived."""
+    of = Counter()
+    for answer in answers:
+        match answer:
+            case MessageNews():
+                of[answer.of] += 1
+            case AudioNews():
+                of["audio"] += 1
+            case Told(what, _):
+                of[what] += 1
+            case Refused():
+                of["refused"] += 1
+    news = [f"{of[sort]} {sort}" for sort in ("event", "confirmed", "recovered", "audio")]
+    count = sum(of[sort] for sort in ("event", "confirmed", "recovered", "audio"))
+    rest = ", ".join(f"{of[sort]} {sort}" for sort in ("repeat", "late", "refused"))
+    return f"sent {sent} packets, {lost} of them lost; {len(answers)} arrived: {count} news ({', '.join(news)}), {rest}"
+
+
+def played(number):
+    """The lines of a call."""
+    codes, lines = keys_of(number)
+    calls, tones = script(codes)
+    turns = merged(calls, carried(calls))
+    ends = {side: End(PROFILE) for side in (NEAR, FAR)}
+    answers = [answer_of(ends[side], call) for side, call in turns]
+    delivered = {call.copies for _, call in turns if isinstance(call, Arrive)}
+    sent = [at for at, answer in enumerate(answers) if is_packet(answer)]
+    lost = [at for at in sent if at not in delivered]
+    told = [turn_line(side, call, answer, at in lost) for at, ((side, call), answer) in enumerate(zip(turns, answers))]
+    lines += [said for said in told if said is not None]
+    heard_answers = [answer for (side, _), answer in zip(turns, answers) if side == FAR]
+    heard = tones_heard(heard_answers)
+    lines += tone_lines("dialled", tones) + tone_lines("heard", heard)
+    lines.append("heard as dialled" if heard == tones else "not heard as dialled")
+    force = ends[FAR].force(CAS)
+    lines.append(f"in force at the far end: {'nothing' if force is None else message_text(force)}")
+    lines += [hostile(bytes([0, 0, 10, 5, 10, 0xEA])), hostile(bytes([0, 0, 10, 5]))]
+    lines.append(summary(len(sent), len(lost), heard_answers))
+    return lines
+
+
+if __name__ == "__main__":
+    if len(sys.argv) > 1:
+        print("\n".join(played(sys.argv[1])))
+    else:
+        (ROOT / "crates" / "dial" / "stdout").write_text("\n".join(played("5#x0")) + "\n")
