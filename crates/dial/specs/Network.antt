@@ -1,5 +1,5 @@
 -- What the network does. Assumes nothing.
-use Rattle.std.specs.Prelude.{ℕ, ◌+◌, ◌-◌, ◌/◌, ◌%◌, ◌^◌, min, cond, List, [], ◌∷◌, Some, None, Option, ◌==◌, nat_lt}
+use Rattle.std.specs.Prelude.{ℕ, ◌+◌, ◌-◌, ◌/◌, ◌%◌, ◌^◌, min, cond, bit_xor, List, [], ◌∷◌, slice_set, slice_index, Some, None, Option, ◌==◌, nat_lt}
 use Rattle.dial.specs.declared.carriage.Sort.{Sort}
 use Rattle.dial.specs.declared.carriage.Sort.TheVariants.{Message, Audio}
 use Rattle.dial.specs.declared.carriage.Fate.{Fate}
@@ -64,3 +64,7 @@ deliveries_by sort time WithForeign = sound_at time ∷ at state.Foreign time �
 
 abbrev pub deliveries : Sort → ℕ → ℕ → List (Option Delivery)
 deliveries sort number sent = deliveries_by sort (arrival sort sent) (fate sort number)
+
+-- the lowest bit of the third octet is changed
+abbrev pub spoiled : List ℕ → List ℕ
+spoiled octets = slice_set octets 2 (bit_xor (slice_index octets 2) 1)

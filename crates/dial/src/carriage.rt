@@ -1,6 +1,6 @@
 // The network between the two ends: it loses, repeats, holds back and spoils packets by their numbers, and takes longer and longer.
 ghost use Rattle.std.specs.Prelude.{◌≡◌, ◌<◌, ◌^◌, take, length};
-ghost use Rattle.dial.specs.Network.{fate, arrival, again, held_back, sound_at, deliveries, far_time};
+ghost use Rattle.dial.specs.Network.{fate, arrival, again, held_back, sound_at, deliveries, spoiled, far_time};
 
 use crate::script::{Asked, Reply, time_of};
 use network::call::{Answer, Call, LONGEST, Turn};
@@ -217,7 +217,7 @@ impl<'a> Packet<'a> {
 
 // No packet has more octets than are taken here.
 fn buffer(octets: &[u8]) -> [u8; LONGEST]
-    ensures { take (length octets.now) result ≡ take 12 octets.now }
+    ensures { take (length octets.now) result ≡ take LONGEST octets.now }
 {
     let mut buffer = [0; LONGEST];
     let count = octets.len().min(LONGEST);
@@ -226,12 +226,14 @@ fn buffer(octets: &[u8]) -> [u8; LONGEST]
 }
 
 fn copied(octets: &[u8]) -> Written<LONGEST>
-    ensures { result ≡ take 12 octets.now }
+    ensures { result ≡ take LONGEST octets.now }
 {
     Written::new(buffer(octets), octets.len())
 }
 
-fn spoiled(octets: &[u8]) -> Written<LONGEST> {
+fn spoiled(octets: &[u8]) -> Written<LONGEST>
+    ensures { THIRD < length octets.now → result ≡ spoiled (take LONGEST octets.now) }
+{
     let mut buffer = buffer(octets);
     buffer[THIRD] ^= 1;
     Written::new(buffer, octets.len())

@@ -1,6 +1,6 @@
 // What the far end makes of the digits that it hears.
-ghost use Rattle.std.specs.Prelude.{◌≡◌};
-ghost use Rattle.dial.specs.Heard.{silent, ends, after, is_new};
+ghost use Rattle.std.specs.Prelude.{◌≡◌, IfOk};
+ghost use Rattle.dial.specs.Heard.{silent, ends, after, is_new, new_digit, hears, tones_heard};
 
 use crate::script::{Reply, Tone};
 use kinds::digit::{Digit, TONE_OFF};
@@ -54,6 +54,15 @@ impl Ear {
         };
         tone
     }
+
+    // An answer of the far end: the tone that it ends, if it ends one.
+    fn answer(&mut self, answer: &Reply) -> Option<Tone>
+        ensures value { result ≡ (hears self.old answer.now).0 }
+        ensures after { self.new ≡ (hears self.old answer.now).1 }
+    {
+        let (digit, position) = new_digit(answer)?;
+        self.hear(digit, position)
+    }
 }
 
 // Whether news says more than that the message in force stays. (A refresh that confirms it is no new key.)
@@ -66,15 +75,26 @@ fn is_new(class: Class) -> bool
     }
 }
 
+// What an answer says of a new digit: it, and its position.
+fn new_digit(answer: &Reply) -> Option<(Digit, u64)>
+    ensures { result ≡ new_digit answer.now }
+{
+    match answer {
+        Answer::Arrive(Ok(Arrived::First(Told::News(news)))) if is_new(news.class) => {
+            Some((news.message, news.moved.position))
+        }
+        _ => None,
+    }
+}
+
 // The tones that the answers tell of.
-pub fn tones_heard(heap: Global, answers: &[Reply]) -> Result<Vec<Tone>, AllocError> {
+pub fn tones_heard(heap: Global, answers: &[Reply]) -> Result<Vec<Tone>, AllocError>
+    ensures { IfOk result (λ tones. tones.items ≡ tones_heard answers.now) }
+{
     let mut tones = Vec::new(heap);
     let mut ear = Ear::new();
     for answer in answers {
-        if let Answer::Arrive(Ok(Arrived::First(Told::News(news)))) = answer
-            && is_new(news.class)
-            && let Some(tone) = ear.hear(news.message, news.moved.position)
-        {
+        if let Some(tone) = ear.answer(answer) {
             tones.push(tone)?;
         }
     }
