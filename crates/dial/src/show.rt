@@ -1,7 +1,7 @@
 // The lines of the call, and how often it came to what.
 use crate::carriage::TYPE_3;
 use crate::script::{Asked, Reply, Tone, time_of};
-use crate::words::{Carried, Heard, Packet, Said, Stream};
+use crate::words::{AudioOf, Carried, Heard, Packet, Said, Stream};
 use kinds::cas::CasBits;
 use kinds::digit::Digit;
 use network::call::{Answer, Call};
@@ -128,6 +128,13 @@ impl<'a> fmt::Display for Line<'a> {
         }
         let time = time_of(self.turn);
         write!(f, "{time:>9}  ")?;
+        self.about(f)
+    }
+}
+
+impl<'a> Line<'a> {
+    // What the call is about.
+    fn about<W: fmt::Write>(&self, f: &mut fmt::Formatter<W>) -> fmt::Result {
         match (self.turn.call, self.answer) {
             (Call::Event { message, .. }, Answer::Event(Ok(()))) => write!(
                 f,
@@ -142,11 +149,10 @@ impl<'a> fmt::Display for Line<'a> {
                     uui: *uui,
                     octets: payload,
                 };
-                write!(f, "sends  {packet}: audio of entry {place}")?;
-                self.end(f)
+                self.sends(packet, AudioOf(place), f)
             }
             (Call::Audio { place, .. }, Answer::Audio(Err(refusal))) => {
-                write!(f, "sends  audio of entry {place}: {refusal}")
+                write!(f, "sends  {}: {refusal}", AudioOf(place))
             }
             (Call::Due { .. }, Answer::Due(Ok(Some(octets)))) => {
                 let octets = octets.as_slice();
@@ -154,8 +160,7 @@ impl<'a> fmt::Display for Line<'a> {
                     uui: TYPE_3,
                     octets,
                 };
-                write!(f, "sends  {packet}: {}", Carried(octets))?;
-                self.end(f)
+                self.sends(packet, Carried(octets), f)
             }
             (Call::Due { which, .. }, Answer::Due(Err(refusal))) => {
                 write!(f, "asks   {}: {refusal}", Stream(which))
@@ -167,15 +172,15 @@ impl<'a> fmt::Display for Line<'a> {
             _ => Ok(()),
         }
     }
-}
 
-impl<'a> Line<'a> {
-    fn end<W: fmt::Write>(&self, f: &mut fmt::Formatter<W>) -> fmt::Result {
-        if self.lost {
-            write!(f, ", lost")
-        } else {
-            Ok(())
-        }
+    fn sends<S: fmt::Display + Drop, W: fmt::Write>(
+        &self,
+        packet: Packet,
+        carried: S,
+        f: &mut fmt::Formatter<W>,
+    ) -> fmt::Result {
+        let lost = if self.lost { ", lost" } else { "" };
+        write!(f, "sends  {packet}: {carried}{lost}")
     }
 }
 

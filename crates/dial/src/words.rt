@@ -95,6 +95,16 @@ impl fmt::Display for SentAs {
     }
 }
 
+// Audio, by the place of its entry.
+#[derive(Drop)]
+pub struct AudioOf(pub usize);
+
+impl fmt::Display for AudioOf {
+    fn fmt<W: fmt::Write>(&self, f: &mut fmt::Formatter<W>) -> fmt::Result {
+        write!(f, "audio of entry {}", self.0)
+    }
+}
+
 // What the octets of a packet carry.
 #[derive(Drop)]
 pub struct Carried<'a>(pub &'a [u8]);
@@ -180,12 +190,9 @@ impl<'a> fmt::Display for Heard<'a> {
 }
 
 fn audio_news<W: fmt::Write>(news: &AudioNews, f: &mut fmt::Formatter<W>) -> fmt::Result {
-    let place = news.place;
+    let audio = AudioOf(news.place);
     let elapsed = news.moved.elapsed;
-    write!(
-        f,
-        "news, audio of entry {place}, {elapsed} ms after the news before"
-    )
+    write!(f, "news, {audio}, {elapsed} ms after the news before")
 }
 
 fn message_news<T: Copy, S: fmt::Display + Drop, W: fmt::Write>(
