@@ -1,10 +1,7 @@
 #!/usr/bin/python3
 """Cases of type 3 payloads with their answers, made from the rules alone and not by the programs.
 
-    make.py          writes crates/vectors/stdin and crates/vectors/stdout
-    make.py --dial   prints what crates/dial is to write, and writes it to crates/dial/stdout
-
-rules.py says how payloads are made. No case hangs on chance: the seed is fixed.
+Writes crates/vectors/stdin and crates/vectors/stdout. rules.py says how payloads are made. No case hangs on chance: the seed is fixed.
 """
 
 import random
@@ -271,54 +268,11 @@ def bad_lines():
         bad(line)
 
 
-# ---- the dialled number
-
-def due_of(event, code, until):
-    """The packets of a digit until the next event: three copies 5 ms apart, and a refresh each 500 ms but for tone-off."""
-    packets = [(event + 5 * copy, copy, event) for copy in range(3)]
-    if code != TONE_OFF:
-        packets += [(moment, 3, moment) for moment in range(event + 510, until, 500)]
-    for moment, redundancy, made_for in packets:
-        stamp = made_for % 16384
-        octets = digit_octets(redundancy, stamp, 0, code, -10)
-        yield f"  {moment}: {shown(octets)} reads code {code}, level 10, redundancy {redundancy}, stamp {stamp}"
-
-
-def dialled():
-    """The lines for each key of the number, held for 600 ms, and for two hostile payloads."""
-    lines = []
-    for place, key in enumerate("5#x0"):
-        time = 10000 * place
-        if key not in KEYS:
-            lines.append(f"key {key}: refused with 18")
-            continue
-        lines.append(f"key {key} at {time}")
-        lines += due_of(time, KEYS.index(key), time + 600)
-        lines += due_of(time + 600, TONE_OFF, time + 10000)
-    for octets in (bytes.fromhex("00000A050AEA"), bytes.fromhex("00000A05")):
-        lines += [f"octets {shown(octets)}", f"  refused with {refused(octets, (DIGITS,))[0]}"]
-    return lines
-
-
-def talked():
-    """Two talk spurts of four packets under sixteen labels that count 5 ms each, and the profile of two widths."""
-    lines = ["example A spans 80 ms"]
-    for start in (60, 200):
-        lines.append(f"talk at {start}")
-        lines += [f"  audio at {time} has UUI {time // 5 % 16}" for time in range(start, start + 20, 5)]
-    return lines + ["profile refused with 6 at place 3"]
-
-
 def write_lines(path, lines):
     path.write_text("".join(line + "\n" for line in lines), encoding="utf-8")
 
 
 def main():
-    if sys.argv[1:] == ["--dial"]:
-        lines = dialled() + talked()
-        print("\n".join(lines))
-        write_lines(CRATES / "dial" / "stdout", lines)
-        return
     for part in (good_cas, good_digits, keys, bad_digits, bodies, types_and_lengths, damage, wide, bad_lines):
         part()
     write_lines(CRATES / "vectors" / "stdin", [line for line, _ in cases])
