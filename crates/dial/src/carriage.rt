@@ -3,10 +3,11 @@ ghost use Rattle.std.specs.Prelude.{◌≡◌, ◌<◌, ◌^◌, take, length};
 ghost use Rattle.dial.specs.Network.{fate, arrival, again, held_back, sound_at, deliveries, spoiled, far_time};
 
 use crate::script::{Asked, Reply, time_of};
-use network::call::{Answer, Call, LONGEST, Turn};
+use network::call::{Answer, Call, Turn};
 use network::side::Side;
 use refusal::times::Time;
 use std::alloc::{AllocError, Global};
+use type3::payload::{LONGEST, TYPE_3_UUI};
 use type3::written::Written;
 
 // Packets of a sort are numbered by themselves, and take their own time.
@@ -65,9 +66,6 @@ pub struct Parcel {
     uui: u16,
     octets: Written<LONGEST>,
 }
-
-// The UUI of message packets.
-pub const TYPE_3: u16 = 24;
 
 const FOREIGN: u16 = 27;
 
@@ -193,7 +191,7 @@ impl<'a> Packet<'a> {
                 call,
                 sort: Sort::Message,
                 time: Time::new(time)?,
-                uui: TYPE_3,
+                uui: TYPE_3_UUI,
                 octets: octets.as_slice(),
             }),
             _ => None,

@@ -5,11 +5,11 @@ ghost use Rattle.dial.specs.Dialling.{held, pause_before};
 use kinds::cas::CasBits;
 use kinds::digit::{Digit, TONE_OFF};
 use kinds::system::System;
-use network::call::{Answer, Call, LONGEST, Turn};
+use network::call::{Answer, Call, Turn};
 use network::side::Side;
 use std::alloc::{AllocError, Global};
 use trunk::answer::Which;
-use type3::payload::Either;
+use type3::payload::{Either, LONGEST};
 
 pub type Message = Either<Digit, CasBits>;
 

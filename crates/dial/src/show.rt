@@ -1,5 +1,4 @@
 // The lines of the call, and how often it came to what.
-use crate::carriage::TYPE_3;
 use crate::script::{Asked, Reply, Tone, time_of};
 use crate::words::{AudioOf, Carried, Heard, Packet, Said, Stream};
 use kinds::cas::CasBits;
@@ -10,6 +9,7 @@ use placing::receiver::Class;
 use placing::stream::Told;
 use std::fmt;
 use trunk::answer::Arrived;
+use type3::payload::TYPE_3_UUI;
 
 // What came of a packet: it was sent, and arrived or was lost, or was answered where it arrived.
 #[derive(Clone, Copy, Debug, PartialEq, Eq)]
@@ -157,7 +157,7 @@ impl<'a> Line<'a> {
             (Call::Due { .. }, Answer::Due(Ok(Some(octets)))) => {
                 let octets = octets.as_slice();
                 let packet = Packet {
-                    uui: TYPE_3,
+                    uui: TYPE_3_UUI,
                     octets,
                 };
                 self.sends(packet, Carried(octets), f)

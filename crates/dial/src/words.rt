@@ -2,7 +2,6 @@
 ghost use Rattle.std.specs.Prelude.{◌≡◌, Some, IfSome, is_some, nat_le};
 ghost use Rattle.kinds.specs.Keys.{key_code};
 
-use crate::carriage::TYPE_3;
 use crate::script::{Message, Tone};
 use examples::hex::Hex;
 use kinds::cas::{Cas, CasBits};
@@ -14,7 +13,7 @@ use refusal::Refusal;
 use std::fmt;
 use trunk::answer::{Arrived, AudioNews, Which};
 use type3::bounded::Redundancy;
-use type3::payload::Either;
+use type3::payload::{Either, TYPE_3_UUI};
 use type3::reading::read_either;
 
 // A message.
@@ -143,7 +142,7 @@ pub struct Packet<'a> {
 impl<'a> fmt::Display for Packet<'a> {
     fn fmt<W: fmt::Write>(&self, f: &mut fmt::Formatter<W>) -> fmt::Result {
         let uui = self.uui;
-        if uui == TYPE_3 {
+        if uui == TYPE_3_UUI {
             write!(f, "UUI {uui}, {}", Hex(self.octets))
         } else {
             write!(f, "UUI {uui}, {} octets", self.octets.len())

@@ -2,10 +2,8 @@
 use crate::side::Side;
 use refusal::Refusal;
 use trunk::answer::{Arrived, Which};
+use type3::payload::LONGEST;
 use type3::written::Written;
-
-// No packet is longer, in octets.
-pub const LONGEST: usize = 12;
 
 // A call on an end, with octets `O` and a message `M`. (They are type arguments, since an enum may not hold both a reference and
 // a struct that has a ghost field, as digits have.)

@@ -5,7 +5,7 @@ ghost use Rattle.network.specs.Runs.{end_at, begun, done, taken};
 ghost use Rattle.trunk.specs.End.{due};
 ghost use Rattle.network.specs.Answers.{call_of, turn_of, said_by, answered};
 
-use crate::call::{Answer, Call, LONGEST, Turn};
+use crate::call::{Answer, Call, Turn};
 use crate::side::Side;
 use refusal::Refusal;
 use std::marker::Model;
@@ -13,7 +13,7 @@ use trunk::answer::Which;
 use trunk::service::InService;
 use trunk::set_up::SetUp;
 use type3::kind::Kind;
-use type3::payload::Either;
+use type3::payload::{Either, LONGEST};
 use type3::written::Written;
 
 #[derive(Drop)]

@@ -16,7 +16,7 @@ use profile::load::LoadError;
 use std::alloc::Global;
 use trunk::answer::Which;
 use trunk::set_up::SetUp;
-use type3::payload::Either;
+use type3::payload::{Either, TYPE_3_UUI};
 
 // In dBm0.
 const LEVEL: i8 = -10;
@@ -88,21 +88,21 @@ fn calls(five: Digit, seven: Digit) -> [Turn<&'static [u8], Either<Digit, CasBit
         turn!(Near Due { which: Which::First, time: 1000, room: 6 }),
         turn!(Near Due { which: Which::First, time: 1004, room: 6 }),
         turn!(Near Due { which: Which::First, time: 1005, room: 6 }),
-        turn!(Far Arrive { time: 50, uui: 24, octets: FIVE_COPY_1, copies: Some(3) }),
+        turn!(Far Arrive { time: 50, uui: TYPE_3_UUI, octets: FIVE_COPY_1, copies: Some(3) }),
         turn!(Near Due { which: Which::First, time: 1010, room: 6 }),
-        turn!(Far Arrive { time: 56, uui: 24, octets: FIVE_COPY_2, copies: Some(5) }),
+        turn!(Far Arrive { time: 56, uui: TYPE_3_UUI, octets: FIVE_COPY_2, copies: Some(5) }),
         turn!(Near Due { which: Which::First, time: 1510, room: 6 }),
-        turn!(Far Arrive { time: 560, uui: 24, octets: FIVE_SPOILED, copies: Some(7) }),
+        turn!(Far Arrive { time: 560, uui: TYPE_3_UUI, octets: FIVE_SPOILED, copies: Some(7) }),
         turn!(Far Arrive { time: 561, uui: 16, octets: EMPTY, copies: None }),
-        turn!(Far Arrive { time: 562, uui: 24, octets: FIVE_REFRESH, copies: Some(7) }),
-        turn!(Far Arrive { time: 563, uui: 24, octets: FIVE_COPY_0, copies: Some(1) }),
+        turn!(Far Arrive { time: 562, uui: TYPE_3_UUI, octets: FIVE_REFRESH, copies: Some(7) }),
+        turn!(Far Arrive { time: 563, uui: TYPE_3_UUI, octets: FIVE_COPY_0, copies: Some(1) }),
         turn!(Near Event { time: 1510, message: Either::First(seven) }),
         turn!(Near Event { time: 18000, message: Either::First(seven) }),
         turn!(Near Due { which: Which::First, time: 18000, room: 6 }),
         turn!(Near Due { which: Which::First, time: 18005, room: 6 }),
         turn!(Near Due { which: Which::First, time: 18010, room: 6 }),
         turn!(Near Due { which: Which::First, time: 18510, room: 6 }),
-        turn!(Far Arrive { time: 17565, uui: 24, octets: SEVEN_REFRESH, copies: Some(17) }),
+        turn!(Far Arrive { time: 17565, uui: TYPE_3_UUI, octets: SEVEN_REFRESH, copies: Some(17) }),
         turn!(Near Audio { time: 85, place: 4, payload: SPEECH }),
         turn!(Far Arrive { time: 17600, uui: 1, octets: NOISE, copies: Some(19) }),
         turn!(Near Audio { time: 90, place: 5, payload: SILENCE }),
@@ -110,6 +110,6 @@ fn calls(five: Digit, seven: Digit) -> [Turn<&'static [u8], Either<Digit, CasBit
         turn!(Far Arrive { time: 17606, uui: 1, octets: SPEECH, copies: Some(19) }),
         turn!(Far Event { time: 5, message: Either::Second(BITS) }),
         turn!(Far Due { which: Which::Second, time: 5, room: 5 }),
-        turn!(Near Arrive { time: 3, uui: 24, octets: BITS_COPY_0, copies: Some(25) }),
+        turn!(Near Arrive { time: 3, uui: TYPE_3_UUI, octets: BITS_COPY_0, copies: Some(25) }),
     ]
 }

@@ -1,10 +1,10 @@
 // Example profiles: three that load, and one whose entries differ in width.
-ghost use Rattle.std.specs.Prelude.{◌≡◌, Err, MatchResult};
+ghost use Rattle.std.specs.Prelude.{◌≡◌, Some, Err, MatchResult, codes};
 ghost use Rattle.std.specs.Result.{result_ok};
 ghost use Rattle.refusal.specs.declared.Refusal.TheVariants.{Profile as OfProfile};
 ghost use Rattle.refusal.specs.declared.ProfileFault.TheVariants.{Unlike};
 ghost use Rattle.profile.specs.declared.load.LoadError.TheVariants.{Refused, Memory};
-ghost use Rattle.profile.specs.Examples.{entries_of, example_named};
+ghost use Rattle.profile.specs.Examples.{entries_of, example_named, mixed_widths as mixed};
 
 use crate::entry::Entry;
 use crate::load::LoadError;
@@ -124,6 +124,8 @@ impl Example {
 pub struct UnknownExample;
 
 impl fmt::Display for UnknownExample {
+    ghost output = { λ _. Some (codes "the examples are A, B and C") };
+
     fn fmt<W: fmt::Write>(&self, f: &mut fmt::Formatter<W>) -> fmt::Result {
         write!(f, "the examples are A, B and C")
     }
@@ -147,7 +149,8 @@ impl FromStr for Example {
 }
 
 pub fn mixed_widths(heap: Global) -> Result<Profile, LoadError>
-    ensures { result ≡ Err (Refused (OfProfile Unlike 3)) }
+    ensures value { result ≡ Err (Refused (OfProfile Unlike 3)) }
+    ensures entries { MIXED_WIDTHS ≡ mixed }
 {
     Profile::load(heap, &MIXED_WIDTHS)
 }

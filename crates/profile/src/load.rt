@@ -1,8 +1,8 @@
 // Loading a profile.
-ghost use Rattle.std.specs.Prelude.{◌≡◌};
+ghost use Rattle.std.specs.Prelude.{◌≡◌, Some};
 ghost use Rattle.refusal.specs.Questions.{allowed};
 ghost use Rattle.profile.specs.declared.load.LoadError.TheVariants.{Refused, Memory};
-ghost use Rattle.profile.specs.Loading.{Loads};
+ghost use Rattle.profile.specs.Loading.{Loads, text_of};
 ghost use Rattle.profile.specs.Questions.{refusal};
 
 use crate::entry::Entry;
@@ -21,6 +21,8 @@ pub enum LoadError {
 }
 
 impl fmt::Display for LoadError {
+    ghost output = { λ error. Some (text_of error) };
+
     fn fmt<W: fmt::Write>(&self, f: &mut fmt::Formatter<W>) -> fmt::Result {
         match self {
             LoadError::Refused(refusal) => write!(f, "{refusal}"),

@@ -8,11 +8,8 @@ use placing::stream::{Moved, Told};
 use refusal::Refusal;
 use std::fmt;
 use trunk::answer::Arrived;
-use type3::payload::Either;
+use type3::payload::{Either, LONGEST};
 use type3::written::Written;
-
-// No packet is longer, in octets.
-pub const LONGEST: usize = 12;
 
 // A refusal is an answer here, and no error of the program.
 #[derive(Drop)]

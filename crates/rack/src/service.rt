@@ -5,7 +5,7 @@ ghost use Rattle.kinds.specs.Cas.{cas};
 ghost use Rattle.trunk.specs.End.{due};
 ghost use Rattle.rack.specs.Serving.{label, made, sent, serve};
 
-use crate::answer::{Answer, LONGEST};
+use crate::answer::Answer;
 use crate::call::{Message, ServiceCall};
 use kinds::cas::{Cas, CasBits};
 use kinds::digit::Digit;
@@ -13,7 +13,7 @@ use kinds::digits::Digits;
 use refusal::Refusal;
 use trunk::answer::Which;
 use trunk::service::InService;
-use type3::payload::Either;
+use type3::payload::{Either, LONGEST};
 use type3::written::Written;
 
 // The rack's end has digits and signalling bits as its kinds.

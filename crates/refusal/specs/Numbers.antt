@@ -1,5 +1,5 @@
 -- The number and the layer of each refusal, and what else it tells. Assumes nothing.
-use Rattle.std.specs.Prelude.{ℕ, Some, None, Option}
+use Rattle.std.specs.Prelude.{ℕ, List, ◌++◌, codes, decimal, Some, None, Option}
 use Rattle.refusal.specs.declared.Refusal.{Refusal}
 use Rattle.refusal.specs.declared.Refusal.TheVariants.{Profile, Sending, Arrival, Type3, Kind, Placing}
 use Rattle.refusal.specs.declared.ProfileFault.TheVariants.{EntryCount, UuiRange, EntryLength, Width, Times, Unlike, Duplicate}
@@ -41,6 +41,10 @@ number_of (Kind DigitCode) = 18
 number_of (Kind (Body cause)) = 27
 number_of (Placing EquallyNear) = 28
 number_of (Placing PositionOutOfRange) = 29
+
+-- what is printed of it
+abbrev pub text_of : Refusal → List ℕ
+text_of refusal = codes "refused with " ++ decimal (number_of refusal)
 
 abbrev pub layer_of : Refusal → Layer
 layer_of (Profile fault place) = layer.Profile

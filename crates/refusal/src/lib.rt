@@ -1,8 +1,8 @@
 // Why a call is refused: the layer that asked, and the question that was answered no.
 #![tactic(auto)]
 
-ghost use Rattle.std.specs.Prelude.{◌≡◌};
-ghost use Rattle.refusal.specs.Numbers.{number_of, layer_of, place_of, cause_of};
+ghost use Rattle.std.specs.Prelude.{◌≡◌, Some};
+ghost use Rattle.refusal.specs.Numbers.{number_of, layer_of, place_of, cause_of, text_of};
 ghost use Rattle.refusal.specs.declared.Refusal.TheVariants.{Sending, Arrival, Type3, Kind, Placing};
 
 use std::error::Error;
@@ -188,6 +188,8 @@ impl Refusal {
 }
 
 impl fmt::Display for Refusal {
+    ghost output = { λ refusal. Some (text_of refusal) };
+
     fn fmt<W: fmt::Write>(&self, f: &mut fmt::Formatter<W>) -> fmt::Result {
         write!(f, "refused with {}", self.number())
     }

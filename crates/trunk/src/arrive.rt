@@ -11,11 +11,8 @@ use placing::span::Labelling;
 use refusal::times::Time;
 use refusal::{ArrivalFault, Refusal};
 use type3::kind::Kind;
-use type3::payload::Either;
+use type3::payload::{Either, TYPE_3_UUI};
 use type3::reading::read_either;
-
-// The UUI of type 3 packets.
-const TYPE_3: u16 = 24;
 
 impl<P: Kind, Q: Kind> InService<P, Q> {
     // A packet that arrives at a time.
@@ -29,7 +26,7 @@ impl<P: Kind, Q: Kind> InService<P, Q> {
         ensures after { self.new ≡ (arrive P.Kind.model Q.Kind.model self.old time uui octets.now).1 }
     {
         let time = self.check_arrival(time, uui)?;
-        if uui == TYPE_3 {
+        if uui == TYPE_3_UUI {
             self.arrive_type3(time, octets)
         } else {
             self.arrive_audio(time, uui, octets.len())
@@ -43,7 +40,7 @@ impl<P: Kind, Q: Kind> InService<P, Q> {
         if time.get() < self.clock {
             return Err(ArrivalFault::RunsBack.into());
         }
-        if uui > 15 && uui != TYPE_3 {
+        if uui > 15 && uui != TYPE_3_UUI {
             return Err(ArrivalFault::UnknownUui.into());
         }
         Ok(time)

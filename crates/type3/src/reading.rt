@@ -7,7 +7,7 @@ ghost use Rattle.type3.specs.Exactly.{Exactly, ExactlyEither};
 
 use crate::bounded::{Redundancy, Stamp};
 use crate::kind::Kind;
-use crate::payload::{Either, Payload};
+use crate::payload::{Either, LONGEST, Payload, SHORTEST};
 use crc10::is_right;
 use refusal::{Refusal, Type3Fault};
 
@@ -35,7 +35,7 @@ fn named_type(octets: &[u8]) -> Result<u8, Refusal>
     ensures { result ≡ asked (framing octets.now) (λ f. Err f) (Ok (type_in octets.now)) }
 {
     let n = octets.len();
-    if n < 5 || n > 12 {
+    if n < SHORTEST || n > LONGEST {
         return Err(Type3Fault::PayloadSize.into());
     }
     if !is_right(octets) {
