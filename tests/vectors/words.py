@@ -1,13 +1,7 @@
-"""How type 3 payloads of digits and of CAS are made, from the rules alone and not by the programs.
-
-The CRC is that of Debian's python3-crccheck.
-"""
+"""The words of the programs vectors, timing and arrivals. Payloads are compared with the CRC of Debian's python3-crccheck."""
 
 from crccheck.crc import Crc10
-
-DIGITS, CAS = 2, 3
-KEYS = "0123456789*#ABCD"
-TONE_OFF = 31
+from end import CasBits, Digit
 
 # the value that catalogues of CRCs print
 assert Crc10.calc(b"123456789") == 0x199
@@ -18,30 +12,31 @@ def is_right(octets):
     return Crc10.calc(octets) == 0
 
 
-# the check that takes away what the rest of a payload leaves
-CHECK = {Crc10.calc(check.to_bytes(2, "big")): check for check in range(1024)}
-
-
-def framed(redundancy, stamp, body, message_type):
-    """A payload with a right check, whatever it says."""
-    front = bytes([redundancy << 6 | stamp >> 8, stamp & 0xFF]) + bytes(body)
-    check = CHECK[Crc10.calc(front + bytes([message_type << 2, 0]))]
-    octets = front + bytes([message_type << 2 | check >> 8, check & 0xFF])
-    assert is_right(octets)
-    return octets
-
-
-def level_of(dbm0):
-    return min(max(-dbm0, 0), 31)
-
-
-def digit_octets(redundancy, stamp, system, code, dbm0):
-    return framed(redundancy, stamp, [level_of(dbm0), system << 5 | code], DIGITS)
-
-
-def cas_octets(redundancy, stamp, bits):
-    return framed(redundancy, stamp, [bits], CAS)
-
-
 def shown(octets):
+    """A payload that was written."""
+    assert is_right(octets)
     return octets.hex(" ").upper()
+
+
+def asked(octets):
+    """Octets as they stand in a line."""
+    return octets.hex().upper() or "-"
+
+
+def compared(octets, answer):
+    """The answer to octets that are read: it says that the check is wrong exactly where the other CRC program does."""
+    assert (answer == "refused 24") == (5 <= len(octets) <= 12 and not is_right(octets)), (octets, answer)
+    return answer
+
+
+def message_text(message):
+    match message:
+        case Digit(system, code, level):
+            return f"{level} {system} {code}"
+        case CasBits():
+            return "".join(str(bit) for bit in message)
+    return str(message)
+
+
+def refusal_text(refused):
+    return f"refused {refused.number}" + (f" cause {refused.cause}" if refused.cause else "")
