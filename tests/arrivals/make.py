@@ -114,17 +114,19 @@ def arrive(messages, time, octets, expected=None):
     return lines.add(f"{messages.kind.name} {time} {asked(octets)}", compared(octets, answer), expected)
 
 
-def digit(time, redundancy, made, code, expected=None, level=10, system=0):
-    """A digit made for a time of the far end. What is expected of news leaves out the digit."""
+def message(messages, time, redundancy, made, body, expected):
+    """A message made for a time of the far end. What is expected of news leaves out the message."""
     if expected is not None and expected.split(" ")[0] in (EVENT, CONFIRMED, RECOVERED):
-        expected += f" digit {level} {system} {code}"
-    return arrive(trunk.digits, time, trunk.digits.octets(redundancy, made % STAMPS, [level, system << 5 | code]), expected)
+        expected += f" {messages.kind.name} {message_text(messages.kind.read(body))}"
+    return arrive(messages, time, messages.octets(redundancy, made % STAMPS, body), expected)
+
+
+def digit(time, redundancy, made, code, expected=None, level=10, system=0):
+    return message(trunk.digits, time, redundancy, made, [level, system << 5 | code], expected)
 
 
 def cas(time, redundancy, made, bits, expected=None):
-    if expected is not None and expected.split(" ")[0] in (EVENT, CONFIRMED, RECOVERED):
-        expected += f" cas {bits:04b}"
-    return arrive(trunk.cas, time, trunk.cas.octets(redundancy, made % STAMPS, [bits]), expected)
+    return message(trunk.cas, time, redundancy, made, [bits], expected)
 
 
 def in_force(messages, expected=None):
@@ -544,20 +546,18 @@ class Truth:
     def of(self, made):
         if self.first is None:
             self.first = self.latest = made
-            return "news", 0, 0
+            return "news 0 0"
         before = self.latest
-        if made == before:
-            return ("repeat",)
-        if made < before:
-            return ("late",)
+        if made <= before:
+            return "repeat" if made == before else "late"
         self.latest = made
-        return "news", made - before, made - self.first
+        return f"news {made - before} {made - self.first}"
 
 
-def words_of(answer):
+def without_message(answer):
     """An answer of a message stream without what is of the message."""
     words = answer.split(" ")
-    return ("news", int(words[2]), int(words[3])) if words[0] in (EVENT, CONFIRMED, RECOVERED) else tuple(words)
+    return f"news {words[2]} {words[3]}" if words[0] in (EVENT, CONFIRMED, RECOVERED) else answer
 
 
 def over_a_network():
@@ -570,7 +570,7 @@ def over_a_network():
         sent = sent_over(far_messages(first, 12, gap), STAMPS, rng.choice([10, 9999, 10 * DAY]))
         for time, (redundancy, made, code) in sent:
             code = code if messages is trunk.digits else code % 16
-            assert words_of(send(time, redundancy, made, code)) == truth.of(made)
+            assert without_message(send(time, redundancy, made, code)) == truth.of(made)
         in_force(messages)
 
 
@@ -587,8 +587,7 @@ def audio_over_a_network():
             made += rng.choice([5, 5, 5, 5, 10, 40, 5 * rng.randrange(40), HOUR, DAY + 5])
         truth = Truth()
         for time, (number, made) in sent_over(packets, width * interval, rng.randrange(1000)):
-            answer = label(time, number).split(" ")
-            assert (answer[0], *(int(word) for word in answer[1:])) == truth.of(made)
+            label(time, number, truth.of(made))
 
 
 # ---- at random

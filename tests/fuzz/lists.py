@@ -45,8 +45,7 @@ class Lists:
         """An end in service: under an example, or under what was collected, if it loads."""
         rng = self.rng
         self.say("stop")
-        way = rng.random()
-        if way < 0.75:
+        if rng.random() < 0.75:
             for entry in EXAMPLES[rng.choice("ABC")]:
                 self.say(entry_line(entry))
         else:
