@@ -1,179 +1,104 @@
-#!/usr/bin/python3
 """Arrivals on receiving streams with their answers, made from the rules alone and not by the programs.
 
-Writes crates/arrivals/stdin and crates/arrivals/stdout. No arrival hangs on chance: the seed is fixed.
+Writes crates/arrivals/stdin and crates/arrivals/stdout. No arrival is random: the seed is fixed.
 """
 
 import random
-import sys
-from collections import Counter
-from pathlib import Path
 
-sys.dont_write_bytecode = True
-ROOT = Path(__file__).resolve().parents[2]
-sys.path.insert(0, str(ROOT / "tests" / "vectors"))
-from rules import CAS, DIGITS, TONE_OFF, framed, is_right
+from end import EXAMPLES, KINDS, LAST_TIME as LAST, STAMPS, TONE_OFF, End, Entry, MessageNews, News, Placing, Refused, Told
+from end import answered, framed, load, span_of
+from lines import DAY, HOUR, LARGEST, Lines, changed
+from words import asked, compared, message_text, refusal_text
 
-LAST = 1099511627775
-LARGEST = 2**64 - 1
-WRAP = 16384
-HALF = WRAP // 2
-HOUR, DAY = 3600000, 86400000
+HALF = STAMPS // 2
 EVENT, CONFIRMED, RECOVERED = "event", "confirmed", "recovered"
 
-# of each profile: the first and last UUI of its entries, each range once, and their interval
-PROFILES = {"A": ([(0, 15)], 5), "B": ([(0, 7), (8, 15)], 5), "C": ([(0, 3), (4, 7), (8, 11)], 5)}
+
+def sort_of(answer):
+    """Refusals and what has no numbers as they are; of news its class and redundancy; of all else the first word."""
+    words = answer.split(" ")
+    if words[0] in (EVENT, CONFIRMED, RECOVERED):
+        return " ".join(words[:2])
+    return words[0] if words[0] in ("news", "in", "span") else answer
+
 
 rng = random.Random(28)
-calls = []
+lines = Lines("arrivals", sort_of)
 
 
-# ---- the rules
+class Stream(Placing):
+    """A stream, and the time of the latest arrival that was placed on it."""
 
-def nearest(span, labels, gap):
-    """The number nearest to the gap among labels, labels + span, labels - span and so on; None where two are as near."""
-    turns = (gap - labels) // span
-    numbers = [labels + turn * span for turn in range(turns - 2, turns + 4)]
-    first, second = sorted(numbers, key=lambda number: abs(number - gap))[:2]
-    return None if abs(first - gap) == abs(second - gap) else first
+    clock = 0
 
-
-class Stream:
-    """A stream holds label, arrival time and position of its latest news."""
-
-    def __init__(self, span, unit):
-        self.span, self.unit = span, unit
-        self.latest = None
-        self.clock = 0
-
-    def told(self, time, label):
-        if self.latest is None:
-            return "news", 0, 0
-        before, arrival, position = self.latest
-        elapsed = nearest(self.span, (label - before) * self.unit, time - arrival)
-        if elapsed is None:
-            return ("refused 28",)
-        if elapsed == 0:
-            return ("repeat",)
-        if elapsed < 0:
-            return ("late",)
-        if position + elapsed > LAST:
-            return ("refused 29",)
-        return "news", elapsed, position + elapsed
-
-    def place(self, time, label):
+    def place(self, label, arrival):
         # no case runs back in time
-        assert self.clock <= time <= LAST
-        self.clock = time
-        told = self.told(time, label)
-        if told[0] == "news":
-            self.latest = label, time, told[2]
-        return told
+        assert self.clock <= arrival <= LAST
+        self.clock = arrival
+        return super().place(label, arrival)
 
 
-def has_code(system, code):
-    return code == TONE_OFF or code in {0: range(16), 1: range(15), 2: range(1, 16), 3: range(1, 16)}[system]
+class Messages(End):
+    """An end that has one message stream."""
 
+    def __init__(self, kind):
+        super().__init__(EXAMPLES["A"], [kind])
+        self.kind, self.stream = kind, Stream(STAMPS, 1)
+        self.messages_in = [self.stream]
 
-def read_digit(body):
-    if body[0] > 31:
-        return 1, None
-    system, code = divmod(body[1], 32)
-    if system > 3:
-        return 2, None
-    return (None, f"digit {body[0]} {system} {code}") if has_code(system, code) else (3, None)
-
-
-def read_cas(body):
-    return (1, None) if body[0] > 15 else (None, f"cas {body[0]:04b}")
-
-
-class Messages:
-    """A message stream, and the message in force."""
-
-    def __init__(self, name, message_type, length, read):
-        self.name, self.message_type, self.length, self.read = name, message_type, length, read
-        self.stream = Stream(WRAP, 1)
-        self.force = None
-
-    def arrive(self, time, octets):
-        if not 5 <= len(octets) <= 12:
-            return "refused 23"
-        if not is_right(octets):
-            return "refused 24"
-        if octets[-2] >> 2 != self.message_type:
-            return "refused 25"
-        if len(octets) != self.length + 4:
-            return "refused 26"
-        cause, message = self.read(octets[2:-2])
-        if cause is not None:
-            return f"refused 27 cause {cause}"
-        told = self.stream.place(time, (octets[0] % 64) * 256 + octets[1])
-        if told[0] != "news":
-            return told[0]
-        redundancy = octets[0] >> 6
-        kind = EVENT if redundancy < 3 else CONFIRMED if message == self.force else RECOVERED
-        self.force = message
-        return f"{kind} {redundancy} {told[1]} {told[2]} {message}"
+    def octets(self, redundancy, stamp, body):
+        return framed(redundancy, stamp, body, self.kind.message_type)
 
 
 class Trunk:
     def __init__(self):
-        self.labels = Stream(WRAP, 1)
-        self.digits = Messages("digit", DIGITS, 2, read_digit)
-        self.cas = Messages("cas", CAS, 1, read_cas)
+        self.labels = Stream(STAMPS, 1)
+        self.digits, self.cas = (Messages(kind) for kind in KINDS)
 
 
 trunk = Trunk()
 
 
-def refusal_of_entry(first, last, length, packet_time, interval):
-    """Of a profile of this entry alone."""
-    width = last - first + 1
-    if not first <= last <= 15:
-        return "refused 2"
-    if not 1 <= length <= 64:
-        return "refused 3"
-    if width not in (1, 2, 4, 8, 16) or first % width != 0:
-        return "refused 4"
-    if not 1 <= interval <= 255 or not 1 <= packet_time <= 65535 or packet_time % interval != 0:
-        return "refused 5"
-    return None
-
-
 # ---- calls
 
-def call(line, answer, expected=None):
-    assert expected is None or answer == expected, (line, answer, expected)
-    calls.append((line, answer))
+def said(answer):
+    """An answer in the program's words."""
+    match answer:
+        case News(elapsed, position):
+            return f"news {elapsed} {position}"
+        case MessageNews(stream, of, redundancy, elapsed, position, message):
+            return f"{of} {redundancy} {elapsed} {position} {stream} {message_text(message)}"
+        case Told(what, _):
+            return what
+        case Refused():
+            return refusal_text(answer)
     return answer
 
 
 def new():
     global trunk
     trunk = Trunk()
-    call("new", "new")
+    lines.add("new", "new")
 
 
 def labels_of(line, span, unit):
     trunk.labels = Stream(span, unit)
-    call(line, f"span {span} unit {unit}")
+    lines.add(line, f"span {span} unit {unit}")
 
 
 def profile(name):
-    ranges, interval = PROFILES[name]
-    first, last = ranges[0]
-    labels_of(f"profile {name}", (last - first + 1) * interval, interval)
+    entries = EXAMPLES[name]
+    labels_of(f"profile {name}", span_of(entries), entries[0].interval)
 
 
 def entry(first, last, length, packet_time, interval, expected=None):
     line = f"entry {first} {last} {length} {packet_time} {interval}"
-    refusal = refusal_of_entry(first, last, length, packet_time, interval)
-    assert expected is None or refusal == expected
-    if refusal is None:
-        labels_of(line, (last - first + 1) * interval, interval)
+    entries = answered(load, [Entry(None, 9, first, last, length, packet_time, interval)])
+    if isinstance(entries, Refused):
+        lines.add(line, refusal_text(entries), expected)
     else:
-        call(line, refusal)
+        assert expected is None
+        labels_of(line, span_of(entries), interval)
 
 
 def unit(ms):
@@ -181,33 +106,33 @@ def unit(ms):
 
 
 def label(time, number, expected=None):
-    return call(f"label {time} {number}", " ".join(str(part) for part in trunk.labels.place(time, number)), expected)
+    return lines.add(f"label {time} {number}", said(answered(trunk.labels.place, number, time)), expected)
 
 
 def arrive(messages, time, octets, expected=None):
-    return call(f"{messages.name} {time} {octets.hex().upper() or '-'}", messages.arrive(time, octets), expected)
+    answer = said(answered(messages.arrive_message, time, octets))
+    return lines.add(f"{messages.kind.name} {time} {asked(octets)}", compared(octets, answer), expected)
+
+
+def message(messages, time, redundancy, made, body, expected):
+    """A message made for a time of the far end. What is expected of news leaves out the message."""
+    if expected is not None and expected.split(" ")[0] in (EVENT, CONFIRMED, RECOVERED):
+        expected += f" {messages.kind.name} {message_text(messages.kind.read(body))}"
+    return arrive(messages, time, messages.octets(redundancy, made % STAMPS, body), expected)
 
 
 def digit(time, redundancy, made, code, expected=None, level=10, system=0):
-    """A digit made for a time of the far end, arriving at a time of this one. What is expected of news leaves out the digit."""
-    if expected is not None and expected.split(" ")[0] in (EVENT, CONFIRMED, RECOVERED):
-        expected += f" digit {level} {system} {code}"
-    return arrive(trunk.digits, time, framed(redundancy, made % WRAP, [level, system << 5 | code], DIGITS), expected)
+    return message(trunk.digits, time, redundancy, made, [level, system << 5 | code], expected)
 
 
 def cas(time, redundancy, made, bits, expected=None):
-    if expected is not None and expected.split(" ")[0] in (EVENT, CONFIRMED, RECOVERED):
-        expected += f" cas {bits:04b}"
-    return arrive(trunk.cas, time, framed(redundancy, made % WRAP, [bits], CAS), expected)
+    return message(trunk.cas, time, redundancy, made, [bits], expected)
 
 
 def in_force(messages, expected=None):
-    answer = "nothing in force" if messages.force is None else f"in force {messages.force}"
-    call(f"force {messages.name}", answer, expected)
-
-
-def bad(line):
-    call(line, "bad line")
+    name, message = messages.kind.name, messages.force(0)
+    answer = "nothing in force" if message is None else f"in force {name} {message_text(message)}"
+    lines.add(f"force {name}", answer, expected)
 
 
 # ---- examples
@@ -247,7 +172,8 @@ def held_back():
             digit(80000, 0, 19000, 2, f"{EVENT} 0 10000 10000")
             # the age of the news, and so much more
             arrival = 19000 - back + 61000 + held
-            again = answer if held < HALF else "refused 28" if held == HALF else f"{EVENT} 2 {WRAP - back} {WRAP + 10000 - back}"
+            turned = f"{EVENT} 2 {STAMPS - back} {STAMPS + 10000 - back}"
+            again = answer if held < HALF else "refused 28" if held == HALF else turned
             digit(arrival, 2, 19000 - back, 1, again)
             in_force(trunk.digits, f"in force digit 10 0 {1 if held > HALF else 2}")
 
@@ -278,7 +204,8 @@ def odd_spans():
 
 def even_spans():
     """At half the span two are as near, and at both sides of it one."""
-    for first, last, interval in ((0, 15, 5), (0, 0, 2), (3, 3, 254), (8, 15, 5), (0, 15, 255), (14, 15, 1), (4, 7, 13), (0, 7, 255)):
+    for first, last, interval in ((0, 15, 5), (0, 0, 2), (3, 3, 254), (8, 15, 5), (0, 15, 255), (14, 15, 1), (4, 7, 13),
+                                  (0, 7, 255)):
         span = (last - first + 1) * interval
         for turns in (0, 1, 1000):
             for past in (-1, 0, 1):
@@ -297,21 +224,28 @@ def width_one():
         arrival = 300
         for _ in range(25):
             assert label(arrival, first) != "late"
-            arrival += rng.choice([0, 1, interval // 2, interval // 2 + 1, interval, 7 * interval, rng.randrange(2 * interval)])
+            half = interval // 2
+            arrival += rng.choice([0, 1, half, half + 1, interval, 7 * interval, rng.randrange(2 * interval)])
+
+
+def firsts_of(entries):
+    """The first UUIs of the entries, each once."""
+    return sorted({entry.first for entry in entries})
 
 
 def labels_of_all_entries():
     """Entries with other UUIs tell the same times."""
-    for name, (ranges, interval) in PROFILES.items():
+    for name, entries in EXAMPLES.items():
         profile(name)
-        width = ranges[0][1] - ranges[0][0] + 1
+        width, interval, firsts = entries[0].width, entries[0].interval, firsts_of(entries)
         first_made = made = 1000
-        label(1050, ranges[0][0] + made // interval % width, "news 0 0")
+        label(1050, firsts[0] + made // interval % width, "news 0 0")
         for _ in range(30):
             step = rng.choice([1, 1, 1, 2, width, 720001]) * interval
             made += step
             arrival = made + 50 + rng.randrange(width * interval // 2)
-            label(max(arrival, trunk.labels.clock), rng.choice(ranges)[0] + made // interval % width, f"news {step} {made - first_made}")
+            number = rng.choice(firsts) + made // interval % width
+            label(max(arrival, trunk.labels.clock), number, f"news {step} {made - first_made}")
 
 
 def ends_of_the_range():
@@ -322,12 +256,12 @@ def ends_of_the_range():
     label(LAST, HALF - 2, "refused 29")
     label(LAST, HALF, f"news {LAST + 1 - HALF} {LAST + 1 - HALF}")
     label(LAST, HALF, "repeat")
-    label(LAST, WRAP - 1, f"news {HALF - 1} {LAST}")
+    label(LAST, STAMPS - 1, f"news {HALF - 1} {LAST}")
     label(LAST, 0, "refused 29")
     label(LAST, HALF - 2, "refused 29")
     label(LAST, HALF - 1, "refused 28")
     label(LAST, HALF, "late")
-    label(LAST, WRAP - 1, "repeat")
+    label(LAST, STAMPS - 1, "repeat")
     new()
     label(LAST, 5, "news 0 0")
     label(LAST, 6, "news 1 1")
@@ -373,11 +307,11 @@ def ties():
     digit(1001 + HALF, 3, 5001 + HALF, 3, f"{RECOVERED} 3 {HALF} {HALF + 1}")
     new()
     cas(0, 0, 0, 1, f"{EVENT} 0 0 0")
-    for time in (0, WRAP, 5 * WRAP, HOUR * WRAP):
+    for time in (0, STAMPS, 5 * STAMPS, HOUR * STAMPS):
         cas(time, 3, HALF, 2, "refused 28")
         cas(time, 0, HALF, 2, "refused 28")
         in_force(trunk.cas, "in force cas 0001")
-    cas(HOUR * WRAP + 1, 3, 1, 1, f"{CONFIRMED} 3 {HOUR * WRAP + 1} {HOUR * WRAP + 1}")
+    cas(HOUR * STAMPS + 1, 3, 1, 1, f"{CONFIRMED} 3 {HOUR * STAMPS + 1} {HOUR * STAMPS + 1}")
 
 
 def only_news_moves():
@@ -387,7 +321,7 @@ def only_news_moves():
         digit(1000, 0, 9000, 1, f"{EVENT} 0 0 0")
         digit(6000, 1, made, 2, answer)
         # beside the arrival at 6000 it would be 10 ms later than the news, and not a whole span more
-        digit(11000, 2, 9010, 3, f"{EVENT} 2 {WRAP + 10} {WRAP + 10}")
+        digit(11000, 2, 9010, 3, f"{EVENT} 2 {STAMPS + 10} {STAMPS + 10}")
     new()
     digit(1000, 0, 9000, 1, f"{EVENT} 0 0 0")
     digit(6000, 0, 9001, 2, f"{EVENT} 0 1 1")
@@ -438,7 +372,7 @@ def stays_in_force():
     in_force(trunk.digits, "in force digit 10 0 4")
     digit(100000 + HALF, 3, 50000, 6, "refused 28")
     in_force(trunk.digits, "in force digit 10 0 4")
-    spoiled(trunk.digits, 100000 + HALF, framed(0, 1000, [10, 6], DIGITS))
+    spoiled(trunk.digits, 100000 + HALF, trunk.digits.octets(0, 1000, [10, 6]))
     in_force(trunk.digits, "in force digit 10 0 4")
     digit(100000 + HALF, 3, 50001, 4, f"{CONFIRMED} 3 1 1")
     digit(100000 + HALF, 3, 50001, 6, "repeat")
@@ -448,10 +382,9 @@ def stays_in_force():
 
 
 def spoiled(messages, time, octets, bits=1):
-    changed = bytearray(octets)
-    for bit in rng.sample(range(8 * len(octets)), bits):
-        changed[bit // 8] ^= 1 << bit % 8
-    arrive(messages, time, bytes(changed), "refused 24")
+    # in each octet the last bit comes first
+    places = [place ^ 7 for place in rng.sample(range(8 * len(octets)), bits)]
+    arrive(messages, time, changed(octets, places), "refused 24")
 
 
 def unread():
@@ -462,21 +395,22 @@ def unread():
             digit(900, 0, 900, 1, f"{EVENT} 0 0 0")
             cas(900, 0, 900, 1, f"{EVENT} 0 0 0")
         for messages, good in ((trunk.digits, [10, 5]), (trunk.cas, [5])):
-            for octets in (b"", b"\0", b"\0" * 4, b"\0" * 13, b"\0" * 30, framed(0, 1, good, messages.message_type)[:4]):
+            for octets in (b"", b"\0", b"\0" * 4, b"\0" * 13, b"\0" * 30, messages.octets(0, 1, good)[:4]):
                 arrive(messages, 1000, octets, "refused 23")
             for bits in (1, 2, 3, 5):
-                spoiled(messages, 1000, framed(rng.randrange(4), 1000, good, messages.message_type), bits)
-            for other in (0, 5 - messages.message_type, 63):
+                spoiled(messages, 1000, messages.octets(rng.randrange(4), 1000, good), bits)
+            for other in (0, 5 - messages.kind.message_type, 63):
                 arrive(messages, 1000, framed(0, 1000, good, other), "refused 25")
             arrive(messages, 1000, b"\0" * 5, "refused 25")
             for body in (good * 2 + good, [0] * 8, good + good if messages is trunk.cas else [0]):
-                arrive(messages, 1000, framed(0, 1000, body, messages.message_type), "refused 26")
+                arrive(messages, 1000, messages.octets(0, 1000, body), "refused 26")
             in_force(messages)
-        for cause, bodies in ((1, ([32, 5], [255, 255])), (2, ([10, 128], [31, 255])), (3, ([10, 16], [10, 47], [0, 64], [0, 96], [0, 30]))):
+        wrong = {1: ([32, 5], [255, 255]), 2: ([10, 128], [31, 255]), 3: ([10, 16], [10, 47], [0, 64], [0, 96], [0, 30])}
+        for cause, bodies in wrong.items():
             for body in bodies:
-                arrive(trunk.digits, 1000, framed(3, 1000, body, DIGITS), f"refused 27 cause {cause}")
+                arrive(trunk.digits, 1000, trunk.digits.octets(3, 1000, body), f"refused 27 cause {cause}")
         for body in (16, 128, 255):
-            arrive(trunk.cas, 1000, framed(3, 1000, [body], CAS), "refused 27 cause 1")
+            arrive(trunk.cas, 1000, trunk.cas.octets(3, 1000, [body]), "refused 27 cause 1")
         digit(1000, 1, 1000, 1, f"{EVENT} 1 {100 * state} {100 * state}")
         cas(1000, 3, 1000, 1, f"{CONFIRMED if state else RECOVERED} 3 {100 * state} {100 * state}")
 
@@ -495,18 +429,18 @@ def units():
     """Labels count any unit, also one that is no part of the span, and nothing; and they may pass the span."""
     new()
     label(0, 65535, "news 0 0")
-    label(0, 65535 - WRAP, "repeat")
+    label(0, 65535 - STAMPS, "repeat")
     label(0, 0, "news 1 1")
-    label(1, 3 * WRAP + 5, "news 5 6")
+    label(1, 3 * STAMPS + 5, "news 5 6")
     for ms in (0, 2, 5, 8191, 8192, 16383, 16384, 65535):
         new()
         unit(ms)
         label(100, 1, "news 0 0")
         label(100 + HALF - 1, 1, "repeat")
         label(100 + HALF, 1, "refused 28")
-        label(100 + HALF + 1, 1, f"news {WRAP} {WRAP}")
+        label(100 + HALF + 1, 1, f"news {STAMPS} {STAMPS}")
         for number in (2, 1, 0, 65535, 1, 32768, 40000):
-            label(trunk.labels.clock + rng.randrange(WRAP), number)
+            label(trunk.labels.clock + rng.randrange(STAMPS), number)
     profile("C")
     unit(3)
     label(0, 0, "news 0 0")
@@ -519,9 +453,10 @@ def entries_refused():
     new()
     entry(4, 7, 40, 10, 5)
     label(10, 4, "news 0 0")
-    for offered, number in (((1, 0, 0, 0, 0), 2), ((0, 16, 1, 5, 5), 2), ((65535, 65535, 1, 5, 5), 2), ((0, 7, 0, 5, 5), 3), ((0, 7, 65, 5, 5), 3),
-                            ((0, 2, 64, 5, 5), 4), ((1, 2, 1, 5, 5), 4), ((4, 11, 1, 0, 0), 4), ((0, 7, 1, 5, 0), 5), ((0, 7, 1, 256, 256), 5),
-                            ((0, 7, 1, 0, 5), 5), ((0, 7, 1, 6, 5), 5), ((0, 7, 1, 65540, 5), 5), ((0, 7, 1, 2**32 - 1, 255), 5)):
+    for offered, number in (((1, 0, 0, 0, 0), 2), ((0, 16, 1, 5, 5), 2), ((65535, 65535, 1, 5, 5), 2),
+                            ((0, 7, 0, 5, 5), 3), ((0, 7, 65, 5, 5), 3), ((0, 2, 64, 5, 5), 4), ((1, 2, 1, 5, 5), 4),
+                            ((4, 11, 1, 0, 0), 4), ((0, 7, 1, 5, 0), 5), ((0, 7, 1, 256, 256), 5), ((0, 7, 1, 0, 5), 5),
+                            ((0, 7, 1, 6, 5), 5), ((0, 7, 1, 65540, 5), 5), ((0, 7, 1, 2**32 - 1, 255), 5)):
         entry(*offered, f"refused {number}")
     label(10, 5, "news 5 5")
 
@@ -556,19 +491,21 @@ def bad_lines():
     profile("A")
     label(50, 0, "news 0 0")
     digit(50, 0, 0, 1)
-    good = framed(0, 1, [10, 5], DIGITS).hex().upper()
-    for line in ("", " ", "new ", " new", "NEW", "new 1", "profile", "profile ", "profile D", "profile a", "profile A B",
-                 "entry", "entry 0 15 40 5", "entry 0 15 40 5 5 5", "entry 0 65536 40 5 5", "entry 65536 0 40 5 5", "entry 0 15 65536 5 5",
-                 "entry 0 15 40 4294967296 5", "entry 0 15 40 5 65536", "entry -1 15 40 5 5", "entry x 15 40 5 5", "entry 0 15  40 5 5",
-                 "unit", "unit ", "unit x", "unit -1", "unit 65536", "unit 5 5",
-                 "label", "label 90", "label 90 ", "label 90 x", "label 90 -1", "label 90 65536", "label 90 1 1", "label x 1", "label -1 1",
-                 f"label {LAST + 1} 1", f"label {LARGEST} 1", f"label {LARGEST + 1} 1", "Label 90 1", "label 9.0 1",
-                 "digit", "digit 90", "digit 90 ", f"digit 90 {good[:-1]}", f"digit 90 {good.lower()}", f"digit 90 {good} ", f"digit 90 {good} 0",
-                 f"digit {LAST + 1} {good}", f"digit {LARGEST} {good}", f"digit {LARGEST + 1} {good}", f"digit x {good}", f"digit  {good}",
-                 "digit 90 G0", "digit 90 --", f"digit 90 -{good}", f"digit {LAST + 1} -",
-                 f"cas {LAST + 1} 0000000C66", "cas 90 0000000c66", "cas 90 é",
-                 "force", "force ", "force label", "force digit 1", "force Digit", "force  cas", "forces cas", f"payload 90 {good}"):
-        bad(line)
+    good = trunk.digits.octets(0, 1, [10, 5]).hex().upper()
+    for line in ("", " ", "new ", " new", "NEW", "new 1", "profile", "profile ", "profile D", "profile a",
+                 "profile A B", "entry", "entry 0 15 40 5", "entry 0 15 40 5 5 5", "entry 0 65536 40 5 5",
+                 "entry 65536 0 40 5 5", "entry 0 15 65536 5 5", "entry 0 15 40 4294967296 5", "entry 0 15 40 5 65536",
+                 "entry -1 15 40 5 5", "entry x 15 40 5 5", "entry 0 15  40 5 5", "unit", "unit ", "unit x", "unit -1",
+                 "unit 65536", "unit 5 5", "label", "label 90", "label 90 ", "label 90 x", "label 90 -1",
+                 "label 90 65536", "label 90 1 1", "label x 1", "label -1 1", f"label {LAST + 1} 1",
+                 f"label {LARGEST} 1", f"label {LARGEST + 1} 1", "Label 90 1", "label 9.0 1", "digit", "digit 90",
+                 "digit 90 ", f"digit 90 {good[:-1]}", f"digit 90 {good.lower()}", f"digit 90 {good} ",
+                 f"digit 90 {good} 0", f"digit {LAST + 1} {good}", f"digit {LARGEST} {good}",
+                 f"digit {LARGEST + 1} {good}", f"digit x {good}", f"digit  {good}", "digit 90 G0", "digit 90 --",
+                 f"digit 90 -{good}", f"digit {LAST + 1} -", f"cas {LAST + 1} 0000000C66", "cas 90 0000000c66",
+                 "cas 90 é", "force", "force ", "force label", "force digit 1", "force Digit", "force  cas",
+                 "forces cas", f"payload 90 {good}"):
+        lines.bad(line)
     label(50, 1, "news 5 5")
     in_force(trunk.digits, "in force digit 10 0 1")
     in_force(trunk.cas, "nothing in force")
@@ -577,7 +514,7 @@ def bad_lines():
 # ---- a network
 
 def far_messages(first, events, gap):
-    """What a far end makes: three copies of each event, and refreshes; each with its redundancy, the time it is made for and its code."""
+    """What a far end makes: three copies of each event, and refreshes; each its redundancy, its time and its code."""
     made_for = first
     for number in range(events):
         off = gap == 500 and number % 2 == 1
@@ -587,11 +524,11 @@ def far_messages(first, events, gap):
         refreshes = 0 if off else rng.randrange(4)
         for refresh in range(1, refreshes + 1):
             yield 3, made_for + 10 + refresh * gap, code
-        made_for += 11 + refreshes * gap + rng.choice([0, 1, 100, rng.randrange(20000), WRAP, HOUR, DAY])
+        made_for += 11 + refreshes * gap + rng.choice([0, 1, 100, rng.randrange(20000), STAMPS, HOUR, DAY])
 
 
 def sent_over(packets, span, base):
-    """Some are lost, some doubled; ages differ by less than half the span, so that they come in any order. By their arrivals."""
+    """Some are lost, some doubled; ages differ by less than half the span, so that they come in any order."""
     arrivals = []
     for packet in packets:
         for _ in range(rng.choice([0, 1, 1, 1, 1, 2])):
@@ -609,32 +546,31 @@ class Truth:
     def of(self, made):
         if self.first is None:
             self.first = self.latest = made
-            return "news", 0, 0
+            return "news 0 0"
         before = self.latest
-        if made == before:
-            return ("repeat",)
-        if made < before:
-            return ("late",)
+        if made <= before:
+            return "repeat" if made == before else "late"
         self.latest = made
-        return "news", made - before, made - self.first
+        return f"news {made - before} {made - self.first}"
 
 
-def words_of(answer):
+def without_message(answer):
     """An answer of a message stream without what is of the message."""
     words = answer.split(" ")
-    return ("news", int(words[2]), int(words[3])) if words[0] in (EVENT, CONFIRMED, RECOVERED) else tuple(words)
+    return f"news {words[2]} {words[3]}" if words[0] in (EVENT, CONFIRMED, RECOVERED) else answer
 
 
 def over_a_network():
-    """Over a network that holds packets back, loses, doubles and turns them round, news is what was made later than all before."""
+    """Over a network that holds back, loses and doubles packets, news is what was made later than all before."""
     for turn in range(24):
         new()
         messages, gap, send = ((trunk.digits, 500, digit), (trunk.cas, 5000, cas))[turn % 2]
         truth = Truth()
-        first = rng.choice([0, rng.randrange(WRAP), rng.randrange(LAST // 2)])
-        for time, (redundancy, made, code) in sent_over(far_messages(first, 12, gap), WRAP, rng.choice([10, 9999, 10 * DAY])):
+        first = rng.choice([0, rng.randrange(STAMPS), rng.randrange(LAST // 2)])
+        sent = sent_over(far_messages(first, 12, gap), STAMPS, rng.choice([10, 9999, 10 * DAY]))
+        for time, (redundancy, made, code) in sent:
             code = code if messages is trunk.digits else code % 16
-            assert words_of(send(time, redundancy, made, code)) == truth.of(made)
+            assert without_message(send(time, redundancy, made, code)) == truth.of(made)
         in_force(messages)
 
 
@@ -643,22 +579,21 @@ def audio_over_a_network():
     for turn in range(18):
         name = "ABC"[turn % 3]
         profile(name)
-        ranges, interval = PROFILES[name]
-        width = ranges[0][1] - ranges[0][0] + 1
+        entries = EXAMPLES[name]
+        width, interval, firsts = entries[0].width, entries[0].interval, firsts_of(entries)
         made, packets = 5 * rng.randrange(LAST // 10), []
         for _ in range(40):
-            packets.append((rng.choice(ranges)[0] + made // interval % width, made))
+            packets.append((rng.choice(firsts) + made // interval % width, made))
             made += rng.choice([5, 5, 5, 5, 10, 40, 5 * rng.randrange(40), HOUR, DAY + 5])
         truth = Truth()
         for time, (number, made) in sent_over(packets, width * interval, rng.randrange(1000)):
-            answer = label(time, number).split(" ")
-            assert (answer[0], *(int(word) for word in answer[1:])) == truth.of(made)
+            label(time, number, truth.of(made))
 
 
 # ---- at random
 
 def some_start():
-    return rng.choice([0, rng.randrange(WRAP), rng.randrange(LAST), rng.randrange(LAST), LAST - rng.randrange(5 * WRAP)])
+    return rng.choice([0, rng.randrange(STAMPS), rng.randrange(LAST), rng.randrange(LAST), LAST - rng.randrange(5 * STAMPS)])
 
 
 def some_turns():
@@ -668,7 +603,8 @@ def some_turns():
 def off_the_gap(span):
     """By how much the elapsed time is past the gap: near nothing, near half the span on both sides, or anything."""
     half = span // 2
-    return rng.choice([0, rng.choice([-1, 1]), rng.choice([-1, 1]) * (half + rng.choice([-1, 0, 0, 1])), rng.randint(-half, half)])
+    one, at_half = rng.choice([-1, 1]), rng.choice([-1, 1]) * (half + rng.choice([-1, 0, 0, 1]))
+    return rng.choice([0, one, at_half, rng.randint(-half, half)])
 
 
 def time_for(stream, number):
@@ -695,7 +631,7 @@ def wander_labels():
         interval = rng.choice([1, 2, 3, 5, 5, 20, 254, 255])
         if turn % 8 == 7:
             new()
-            width, first = WRAP, 0
+            width, first = STAMPS, 0
         else:
             entry(first, first + width - 1, 40, interval, interval)
         if turn % 16 == 9:
@@ -713,16 +649,15 @@ def wander_labels():
 
 def some_message(messages, others):
     """Octets of a body: of the message in force, one time in two."""
-    if messages.force is not None and rng.random() < 0.5:
-        words = messages.force.split(" ")
-        return [int(words[1], 2)] if messages is trunk.cas else [int(words[1]), int(words[2]) << 5 | int(words[3])]
+    if messages.force(0) is not None and rng.random() < 0.5:
+        return messages.kind.body(messages.force(0))
     return rng.choice(others)
 
 
 def some_stamp(stream):
     if rng.random() < 0.4:
-        return (stream.latest[0] + rng.choice([0, 0, 1, -1, 5, -5, 10])) % WRAP
-    return rng.choice([0, WRAP - 1, rng.randrange(WRAP), (stream.latest[0] + HALF + rng.choice([-1, 0, 1])) % WRAP])
+        return (stream.latest[0] + rng.choice([0, 0, 1, -1, 5, -5, 10])) % STAMPS
+    return rng.choice([0, STAMPS - 1, rng.randrange(STAMPS), (stream.latest[0] + HALF + rng.choice([-1, 0, 1])) % STAMPS])
 
 
 def wander():
@@ -734,17 +669,17 @@ def wander():
             others = [[10, 5], [10, 31], [rng.randrange(32), 33 + rng.randrange(14)]]
 
         def place(time, stamp):
-            arrive(messages, time, framed(rng.choice([0, 1, 2, 3, 3, 3]), stamp, some_message(messages, others), messages.message_type))
+            arrive(messages, time, messages.octets(rng.choice([0, 1, 2, 3, 3, 3]), stamp, some_message(messages, others)))
 
         if turn % 4 < 2:
-            place(some_start(), rng.randrange(WRAP))
+            place(some_start(), rng.randrange(STAMPS))
         else:
             far_positions(messages.stream, place)
         for _ in range(18):
             stamp = some_stamp(messages.stream)
             time = time_for(messages.stream, stamp)
             if rng.random() < 0.04:
-                spoiled(messages, time, framed(3, stamp, some_message(messages, others), messages.message_type), rng.choice([1, 2, 3]))
+                spoiled(messages, time, messages.octets(3, stamp, some_message(messages, others)), rng.choice([1, 2, 3]))
             place(time, stamp)
             if rng.random() < 0.15:
                 in_force(messages)
@@ -752,46 +687,24 @@ def wander():
 
 # ---- all of them
 
-def kind_of(answer):
-    """Refusals and what has no numbers as they are; of all else the first word."""
-    word = answer.split(" ")[0]
-    return word if word in ("news", EVENT, CONFIRMED, RECOVERED, "in", "span") else answer
-
-
-def counted():
-    """How often each kind of answer comes."""
-    return Counter(f"{line.split(' ')[0]} {kind_of(answer)}" for line, answer in calls)
-
-
 def is_enough():
     """Every answer that a call has comes often."""
-    count = counted()
-    for answer in ("news", "repeat", "late", "refused 28", "refused 29"):
-        assert count[f"label {answer}"] >= 40, (answer, count)
-    for what in ("digit", "cas"):
-        for answer in (EVENT, CONFIRMED, RECOVERED, "repeat", "late", "refused 24", "refused 28", "refused 29"):
-            assert count[f"{what} {answer}"] >= 40, (what, answer, count)
-        for answer in ("refused 23", "refused 25", "refused 26", "refused 27 cause 1"):
-            assert count[f"{what} {answer}"] >= 4, (what, answer, count)
-    for cause in (2, 3):
-        assert count[f"digit refused 27 cause {cause}"] >= 4, count
-    for what in ("digit", "cas"):
-        redundancies = Counter(answer.split(" ")[1] for line, answer in calls if line.startswith(f"{what} ") and answer.split(" ")[0] == EVENT)
-        assert all(redundancies[str(redundancy)] >= 40 for redundancy in range(3)), redundancies
-    assert count["force in"] >= 100 and count["force nothing in force"] >= 5, count
-    assert all(count[f"entry refused {number}"] >= 2 for number in range(2, 6)), count
-    assert 3000 <= len(calls) < 10000, len(calls)
+    lines.often("label", ["news", "repeat", "late", "refused 28", "refused 29"], 40)
+    for word in ("digit", "cas"):
+        lines.often(word, ["event 0", "event 1", "event 2", "confirmed 3", "recovered 3"], 40)
+        lines.often(word, ["repeat", "late", "refused 24", "refused 28", "refused 29"], 40)
+        lines.often(word, ["refused 23", "refused 25", "refused 26", "refused 27 cause 1"], 4)
+    lines.often("digit", ["refused 27 cause 2", "refused 27 cause 3"], 4)
+    lines.often("force", ["in"], 100)
+    lines.often("force", ["nothing in force"], 5)
+    lines.often("entry", (f"refused {number}" for number in range(2, 6)), 2)
+    assert 3000 <= len(lines.lines) < 10000, len(lines.lines)
 
 
-def main():
-    for part in (rows, quiet, held_back, hours_of_keys, odd_spans, even_spans, width_one, labels_of_all_entries, ends_of_the_range, forward, ties,
-                 only_news_moves, classes, first_refreshes, stays_in_force, unread, known_octets, units, entries_refused, apart, bad_lines,
-                 over_a_network, audio_over_a_network, wander_labels, wander):
-        part()
-    is_enough()
-    for name, place in (("stdin", 0), ("stdout", 1)):
-        lines = "".join(pair[place] + "\n" for pair in calls)
-        (ROOT / "crates" / "arrivals" / name).write_text(lines, encoding="utf-8")
-
-
-main()
+for part in (rows, quiet, held_back, hours_of_keys, odd_spans, even_spans, width_one, labels_of_all_entries,
+             ends_of_the_range, forward, ties, only_news_moves, classes, first_refreshes, stays_in_force, unread,
+             known_octets, units, entries_refused, apart, bad_lines, over_a_network, audio_over_a_network,
+             wander_labels, wander):
+    part()
+is_enough()
+lines.write()

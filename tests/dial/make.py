@@ -1,22 +1,18 @@
-#!/usr/bin/python3
 """The call that docs/dial.md describes, made from the documents alone and not by the program.
 
-Writes crates/dial/stdout. The answers are those of the oracle.
+Writes crates/dial/stdout; with a number as its argument it prints the call to that. The answers are those of the oracle.
 """
 
 import sys
 from collections import Counter
-from pathlib import Path
 from typing import NamedTuple
 
-sys.dont_write_bytecode = True
-ROOT = Path(__file__).resolve().parents[2]
-sys.path.insert(0, str(ROOT / "tests" / "oracle"))
-from end import EXAMPLES, KINDS, TONE_OFF, AudioNews, CasBits, Digit, End, MessageNews, Nothing, Refused, Told, new_digit, read
+from end import EXAMPLES, KEYS, KINDS, TONE_OFF, AudioNews, CasBits, Digit, End, MessageNews, Nothing, Refused, Told
+from end import answered, new_digit, read
 from law import FAR, NEAR, Arrive, Audio, Due, Event, answer_of
+from lines import CRATES, changed
 
 PROFILE = EXAMPLES["A"]
-KEYS = "0123456789*#ABCD"
 MOST_KEYS = 64
 LEVEL = -10
 DIGITS, CAS = 0, 1
@@ -83,10 +79,6 @@ class Parcel(NamedTuple):
     call: int | None
 
 
-def spoiled(octets):
-    return bytes(octet ^ 1 if place == 2 else octet for place, octet in enumerate(octets))
-
-
 def message_parcels(number, sent, octets, call):
     time = sent + 40 + sent // 2
     itself = Parcel(time, 24, octets, call)
@@ -100,7 +92,8 @@ def message_parcels(number, sent, octets, call):
         case 4:
             return [itself._replace(time=time + 1000)]
         case 6:
-            return [itself._replace(octets=spoiled(octets)), itself._replace(time=time + 20)]
+            # the lowest bit of the third octet
+            return [itself._replace(octets=changed(octets, [23])), itself._replace(time=time + 20)]
         case 7:
             return [itself, Parcel(time, 27, b"", None)]
     return [itself]
@@ -184,29 +177,22 @@ def line(side, time, word, about):
 
 def turn_line(side, call, answer, lost):
     """The line of a call, or none where nothing was due."""
-    refused = f": {answer_text(answer)}" if isinstance(answer, Refused) else ""
     end = ", lost" if lost else ""
-    match call:
-        case Event(_, time, message):
-            return line(side, time, "event", message_text(message) + refused)
-        case Audio(time, place, octets):
-            if refused:
-                return line(side, time, "sends", f"audio of entry {place}{refused}")
-            return line(side, time, "sends", f"{packet_text(answer, octets)}: audio of entry {place}{end}")
-        case Due(which, time, _):
-            if refused:
-                return line(side, time, "asks ", f"{STREAMS[KINDS[which].name]}{refused}")
-            if isinstance(answer, Nothing):
-                return None
-            _, payload = read(KINDS, answer)
-            said = f"{message_text(payload.message)}, {sent_as(payload.redundancy)}"
-            return line(side, time, "sends", f"{packet_text(24, answer)}: {said}{end}")
-        case Arrive(time, uui, octets, _):
+    match call, answer:
+        case Arrive(time, uui, octets, _), _:
             return line(side, time, "hears", f"{packet_text(uui, octets)}: {answer_text(answer)}")
-
-
-def is_packet(answer):
-    return isinstance(answer, (bytes, int))
+        case _, Refused():
+            return line(side, call.time, "asks ", answer_text(answer))
+        case _, Nothing():
+            return None
+        case Event(_, time, message), _:
+            return line(side, time, "event", message_text(message))
+        case Audio(time, place, octets), uui:
+            return line(side, time, "sends", f"{packet_text(uui, octets)}: audio of entry {place}{end}")
+        case Due(_, time, _), octets:
+            _, payload = read(KINDS, octets)
+            said = f"{message_text(payload.message)}, {sent_as(payload.redundancy)}"
+            return line(side, time, "sends", f"{packet_text(24, octets)}: {said}{end}")
 
 
 def tones_heard(answers):
@@ -228,12 +214,7 @@ def tone_lines(word, tones):
 
 
 def hostile(octets):
-    try:
-        read(KINDS[:1], octets)
-        said = "read"
-    except Refused as refused:
-        said = answer_text(refused)
-    return f"octets {octets.hex(' ').upper()}: {said}"
+    return f"octets {octets.hex(' ').upper()}: {answer_text(answered(read, KINDS, octets))}"
 
 
 def summary(sent, lost, answers):
@@ -249,10 +230,11 @@ def summary(sent, lost, answers):
                 of[what] += 1
             case Refused():
                 of["refused"] += 1
-    news = [f"{of[sort]} {sort}" for sort in ("event", "confirmed", "recovered", "audio")]
-    count = sum(of[sort] for sort in ("event", "confirmed", "recovered", "audio"))
+    sorts = "event", "confirmed", "recovered", "audio"
+    news = ", ".join(f"{of[sort]} {sort}" for sort in sorts)
+    count = sum(of[sort] for sort in sorts)
     rest = ", ".join(f"{of[sort]} {sort}" for sort in ("repeat", "late", "refused"))
-    return f"sent {sent} packets, {lost} of them lost; {len(answers)} arrived: {count} news ({', '.join(news)}), {rest}"
+    return f"sent {sent} packets, {lost} of them lost; {len(answers)} arrived: {count} news ({news}), {rest}"
 
 
 def played(number):
@@ -263,7 +245,7 @@ def played(number):
     ends = {side: End(PROFILE) for side in (NEAR, FAR)}
     answers = [answer_of(ends[side], call) for side, call in turns]
     delivered = {call.copies for _, call in turns if isinstance(call, Arrive)}
-    sent = [at for at, answer in enumerate(answers) if is_packet(answer)]
+    sent = [at for at, answer in enumerate(answers) if isinstance(answer, (bytes, int))]
     lost = [at for at in sent if at not in delivered]
     told = [turn_line(side, call, answer, at in lost) for at, ((side, call), answer) in enumerate(zip(turns, answers))]
     lines += [said for said in told if said is not None]
@@ -282,4 +264,4 @@ if __name__ == "__main__":
     if len(sys.argv) > 1:
         print("\n".join(played(sys.argv[1])))
     else:
-        (ROOT / "crates" / "dial" / "stdout").write_text("\n".join(played("5#x0")) + "\n")
+        (CRATES / "dial" / "stdout").write_text("\n".join(played("5#x0")) + "\n")

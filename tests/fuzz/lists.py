@@ -1,29 +1,19 @@
-#!/usr/bin/python3
 """Random and mutated lists of calls through the rack, each answer beside that of the oracle: lists.py PROGRAM COUNT SEED"""
 
 import random
 import subprocess
 import sys
 from collections import Counter
-from pathlib import Path
 
-sys.dont_write_bytecode = True
-TESTS = Path(__file__).resolve().parents[1]
-sys.path.insert(0, str(TESTS / "oracle"))
-sys.path.insert(0, str(TESTS / "rack"))
-from end import EXAMPLES, LAST_TIME, crc, bits_of
-from rack import Rack
+from end import EXAMPLES, LAST_TIME
+from lines import LARGEST, changed
+from payloads import checked, told
+from rack import Rack, entry_line
 
 CHUNK = 5000
-STEPS = [0, 0, 0, 1, 1, 4, 5, 5, 9, 10, 11, 20, 35, 39, 40, 41, 80, 499, 500, 501, 510, 4999, 5000, 5010, 8191, 8192, 8193, 16383, 16384, 16385, 3600000]
-
-
-def checked(rng):
-    """Octets of a payload with a right check, of any kind and body."""
-    message_type = rng.choice([2, 2, 2, 3, 3, rng.randrange(64)])
-    front = rng.randbytes(2) + rng.randbytes({2: 2, 3: 1}.get(message_type, 2) if rng.random() < 0.8 else rng.randint(1, 8))
-    check = crc(bits_of(front) + bits_of([message_type * 4])[:6])
-    return front + bytes([message_type * 4 + check // 256, check % 256])
+STEPS = [0, 0, 0, 1, 1, 4, 5, 5, 9, 10, 11, 20, 35, 39, 40, 41, 80, 499, 500, 501, 510, 4999, 5000, 5010,
+         8191, 8192, 8193, 16383, 16384, 16385, 3600000]
+NUMBERS = [0, 1, 15, 16, 24, 255, 256, 65536, 2**32, 2**40, LARGEST, 2**64, -1, -129]
 
 
 class Lists:
@@ -48,17 +38,16 @@ class Lists:
         interval = rng.choice([1, 5, 5, 5, 10, 37, 255, 0, 256])
         index = rng.choice(["-", rng.randrange(256)])
         length = rng.choice([1, 2, 10, 20, 40, 64, 0, 65])
-        return f"entry {index} {rng.randrange(256)} {first} {first + width - 1} {length} {interval * rng.randint(0, 9)} {interval}"
+        packet_time = interval * rng.randint(0, 9)
+        return f"entry {index} {rng.randrange(256)} {first} {first + width - 1} {length} {packet_time} {interval}"
 
     def begin(self):
         """An end in service: under an example, or under what was collected, if it loads."""
         rng = self.rng
         self.say("stop")
-        way = rng.random()
-        if way < 0.75:
-            for e in EXAMPLES[rng.choice("ABC")]:
-                index = "-" if e.index is None else e.index
-                self.say(f"entry {index} {e.format} {e.first} {e.last} {e.length} {e.packet_time} {e.interval}")
+        if rng.random() < 0.75:
+            for entry in EXAMPLES[rng.choice("ABC")]:
+                self.say(entry_line(entry))
         else:
             first = self.some_entry()
             for _ in range(rng.choice([1, 1, 1, 2, 3])):
@@ -81,7 +70,7 @@ class Lists:
     def later(self, time):
         rng = self.rng
         if rng.random() < 0.06:
-            return rng.choice([0, LAST_TIME, LAST_TIME + 1, 2**64 - 1, max(time - rng.choice(STEPS), 0), rng.randrange(2**41)])
+            return rng.choice([0, LAST_TIME, LAST_TIME + 1, LARGEST, max(time - rng.choice(STEPS), 0), rng.randrange(2**41)])
         return time + rng.choice(STEPS)
 
     def call(self):
@@ -120,7 +109,7 @@ class Lists:
         time = self.later(self.out[kind])
         if self.plain or rng.random() < 0.4:
             time = self.out[kind] + rng.choice([5, 5, {"digit": 500, "cas": 5000}[kind]])
-        said = self.say(f"due {kind} {time} {rng.choice([6, 6, 6, 5, 12, 4, 0, 2**64 - 1])}")
+        said = self.say(f"due {kind} {time} {rng.choice([6, 6, 6, 5, 12, 4, 0, LARGEST])}")
         if said.startswith("sent"):
             self.sent.append((24, bytes.fromhex(said[5:]), time))
         if not said.startswith("refused"):
@@ -148,9 +137,8 @@ class Lists:
                 time = max(self.heard, made + self.lag + rng.choice([0, 0, 0, 1, 5, 39, 41, 8000, 8200, 16384]))
         elif rng.random() < 0.6:
             uui, octets = 24, checked(rng)
-        octets = bytearray(octets)
         if octets and rng.random() < 0.1:
-            octets[rng.randrange(len(octets))] ^= 1 << rng.randrange(8)
+            octets = changed(octets, [rng.randrange(8 * len(octets))])
         if rng.random() < 0.03:
             uui = rng.choice([16, 23, 25, 31, 255, 65535])
         said = self.say(f"arrive {time} {uui} {octets.hex() or '-'}")
@@ -172,7 +160,7 @@ class Lists:
                 line[place:place + 1] = rng.randbytes(1)
             elif way == 3:
                 words = line.split(b" ")
-                words[rng.randrange(len(words))] = str(rng.choice([0, 1, 15, 16, 24, 255, 256, 65536, 2**32, 2**40, 2**64 - 1, 2**64, -1, -129])).encode()
+                words[rng.randrange(len(words))] = str(rng.choice(NUMBERS)).encode()
                 line = bytearray(b" ".join(words))
             elif way == 4:
                 words = line.split(b" ")
@@ -187,7 +175,6 @@ def main():
     program, count, seed = sys.argv[1], int(sys.argv[2]), int(sys.argv[3])
     lists = Lists(seed)
     seen, total = Counter(), 0
-    answers = []
     rack = subprocess.Popen([program], stdin=subprocess.PIPE, stdout=subprocess.PIPE)
     for start in range(0, count, CHUNK):
         lists.lines, lists.answers = [], []
@@ -214,7 +201,7 @@ def main():
     wanted += [f"{word} {stream}" for word in ("repeat", "late") for stream in ("audio", "digit", "cas")]
     missing = [answer for answer in wanted if not seen[answer]]
     assert not missing, (missing, seen)
-    print(f"{count} lists with {total} lines are answered as the oracle answers them: " + ", ".join(f"{n} {k}" for k, n in sorted(seen.items())))
+    print(f"{count} lists with {total} lines are answered as the oracle answers them:", told(seen))
 
 
 def ask(rack, lines):

@@ -1,11 +1,7 @@
 """Random lists of calls on two ends, with a network that loses, delays, doubles, spoils and forges."""
 
-import sys
-from pathlib import Path
-
-sys.dont_write_bytecode = True
-sys.path.insert(0, str(Path(__file__).resolve().parents[1] / "oracle"))
-from end import CasBits, Digit, EXAMPLES, Entry, KINDS, LAST_TIME, crc, bits_of, has_code
+from end import EXAMPLES, KINDS, LAST_TIME, STAMPS, CasBits, Digit, Entry, framed, has_code
+from lines import changed
 from law import FAR, NEAR, OTHER, Arrive, Audio, Due, Ends, Event, arrivals, made
 
 
@@ -17,27 +13,19 @@ def random_message(rng, which):
     return Digit(system, code, rng.choice([0, 10, 10, 31]))
 
 
-def framed(front, message_type):
-    """Octets with a right check, whatever they say."""
-    check = crc(bits_of(front) + bits_of([message_type * 4])[:6])
-    return bytes([*front, message_type * 4 + check // 256, check % 256])
-
-
 def forged(rng):
     """A payload of type 3 that no end made: what it says, or its size, may be wrong."""
     message_type = rng.choice([2, 2, 2, 3, 3, 5])
     length = rng.choice({2: [2, 2, 2, 3], 3: [1, 1, 2]}.get(message_type, [1, 2, 8]))
     body = {2: [rng.choice([0, 10, 40]), rng.choice([5, 16 + 64, 130, 31])], 3: [rng.choice([3, 16, 200])]}.get(message_type, [])
-    front = [rng.randrange(256), rng.randrange(256), *(body + [0] * length)[:length]]
-    octets = framed(front, message_type)
+    redundancy, stamp = divmod(rng.randrange(256) * 256 + rng.randrange(256), STAMPS)
+    octets = framed(redundancy, stamp, (body + [0] * length)[:length], message_type)
     return rng.choice([octets, octets, octets, octets[:4], octets + bytes(8), bytes([1, *octets[1:]])])
 
 
 def spoil(rng, octets):
-    bits = bits_of(octets)
-    for at in rng.choice([[rng.randrange(len(bits))], rng.sample(range(len(bits)), 3), rng.sample(range(len(bits)), 2)]):
-        bits[at] ^= 1
-    return bytes(int("".join(map(str, bits[at:at + 8])), 2) for at in range(0, len(bits), 8))
+    bits = range(8 * len(octets))
+    return changed(octets, rng.choice([[rng.choice(bits)], rng.sample(bits, 3), rng.sample(bits, 2)]))
 
 
 class Maker:

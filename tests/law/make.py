@@ -5,14 +5,13 @@ Writes crates/network/specs/Samples.antt. No list hangs on chance: the seed is f
 """
 
 import random
-from pathlib import Path
 
-from lists import NEAR, Maker, random_profile
-from end import EXAMPLES, AudioNews, Digit, MessageNews, Nothing, Refused, Told, load
-from law import Arrive, Audio, Due, Event
+from end import EXAMPLES, AudioNews, Digit, MessageNews, Nothing, Refused, Told, answered, load
+from law import NEAR, Arrive, Audio, Due, Event
+from lines import CRATES
+from lists import Maker, random_profile
 
-SPECS = Path(__file__).resolve().parents[2] / "crates" / "network" / "specs"
-PROOFS = SPECS.parent / "proofs"
+NETWORK = CRATES / "network"
 CALLS = range(18, 26)
 
 HEAD = """\
@@ -176,10 +175,9 @@ def offered(rng, tries=4000):
             if entries:
                 at, field = rng.randrange(len(entries)), rng.choice(["first", "last", "length", "packet_time", "interval"])
                 entries[at] = entries[at]._replace(**{field: rng.choice([0, 1, 4, 7, 8, 15, 16, 40, 65, 255, 256, 65535])})
-        try:
-            load(entries)
-        except Refused as refused:
-            found.setdefault((refused.number, refused.place), (entries, refused))
+        answer = answered(load, entries)
+        if isinstance(answer, Refused):
+            found.setdefault((answer.number, answer.place), (entries, answer))
     return [found[key] for key in sorted(found)]
 
 
@@ -201,7 +199,7 @@ def main():
     text += f"\n-- lists of entries that do not load, each with its refusal\nabbrev pub offers : List (List Entry × Refusal)\noffers =\n    {offers_text}\n"
     fields.append(("offers_are_refused_so", "map (λ o. refusal o.0) offers ≡ map (λ o. Some o.1) offers"))
     text += "\npub record SamplesHold : Type 0 where\n" + "".join(f"  pub {name} : {what}\n" for name, what in fields)
-    (SPECS / "Samples.antt").write_text(text)
+    (NETWORK / "specs" / "Samples.antt").write_text(text)
     proof = """\
 -- Made by tests/law/make.py: the samples, by computing. Assumes nothing.
 use Rattle.std.proofs.Common.{refl}
@@ -210,7 +208,7 @@ use Rattle.network.specs.Samples.{SamplesHold}
 pub samples_hold : SamplesHold
 """
     proof += "samples_hold = record {\n" + "".join(f"  {name} = refl;\n" for name, _ in fields) + "}\n"
-    (PROOFS / "Sampled.antt").write_text(proof)
+    (NETWORK / "proofs" / "Sampled.antt").write_text(proof)
     print(len(taken), "lists,", sum(len(history) for _, history in taken), "calls,", sorts, "sorts of answers,", len(offers), "offers")
 
 

@@ -1,4 +1,3 @@
-#!/usr/bin/python3
 """The premises of the law are needed, and suffice: as the examples of docs/law.md say, and on random lists, by the oracle alone.
 
 Each example breaks one premise, and then a promise. With any call left out, the same broken premise breaks no promise.
@@ -7,9 +6,9 @@ Each example breaks one premise, and then a promise. With any call left out, the
 import copy
 import random
 
-from lists import Maker, random_profile
-from end import EXAMPLES, KINDS, LAST_TIME, CasBits, Digits, Digit, End, Entry, shown
+from end import EXAMPLES, KINDS, LAST_TIME, CasBits, Digit, Digits, End, Entry, shown
 from law import FAR, NEAR, OTHER, Arrive, Audio, Due, Ends, Event, broken_premises, broken_promises, made
+from lists import Maker, random_profile
 
 NEWS, ORIGIN, IN_FORCE = "news exactly when later", "news names its origin", "in force is what the far end had"
 ZERO = CasBits(0, 0, 0, 0)

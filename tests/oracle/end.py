@@ -29,6 +29,14 @@ def ask(yes, number, layer, **more):
         raise Refused(number, layer, **more)
 
 
+def answered(call, *values):
+    """What a call answers, or its refusal."""
+    try:
+        return call(*values)
+    except Refused as refused:
+        return refused
+
+
 def is_time(time):
     return 0 <= time <= LAST_TIME
 
@@ -62,10 +70,15 @@ class Payload(NamedTuple):
     message: tuple
 
 
+def framed(redundancy, stamp, body, message_type):
+    """Octets with a right check, whatever they say."""
+    front = [redundancy * 64 + stamp // 256, stamp % 256, *body]
+    check = crc(bits_of(front) + bits_of([message_type * 4])[:6])
+    return bytes([*front, message_type * 4 + check // 256, check % 256])
+
+
 def written(kind, payload):
-    front = [payload.redundancy * 64 + payload.stamp // 256, payload.stamp % 256, *kind.body(payload.message)]
-    check = crc(bits_of(front) + bits_of([kind.message_type * 4])[:6])
-    return bytes([*front, kind.message_type * 4 + check // 256, check % 256])
+    return framed(payload.redundancy, payload.stamp, kind.body(payload.message), kind.message_type)
 
 
 def read(kinds, octets):
@@ -92,6 +105,7 @@ class Digit(NamedTuple):
 
 
 CODES = {0: range(16), 1: range(15), 2: range(1, 16), 3: range(1, 16)}
+KEYS = "0123456789*#ABCD"
 TONE_OFF = 31
 
 
@@ -153,6 +167,15 @@ class Cas:
 
 
 KINDS = (Digits, Cas)
+
+
+def told_to_c(octets):
+    """The number that a C program is told of a payload."""
+    answer = answered(read, KINDS, octets)
+    if isinstance(answer, Refused):
+        return answer.number + 256 * (answer.cause or 0)
+    place, _ = answer
+    return KINDS[place].message_type * 65536 + octets[0] * 256 + octets[1]
 
 
 # ---- profiles

@@ -5,7 +5,7 @@
 
 from typing import NamedTuple
 
-from end import KINDS, AudioNews, End, MessageNews, Refused, STAMPS, bits_of, is_time, span_of
+from end import KINDS, STAMPS, AudioNews, End, MessageNews, answered, bits_of, is_time, span_of
 
 NEAR, FAR = "near", "far"
 OTHER = {NEAR: FAR, FAR: NEAR}
@@ -48,18 +48,15 @@ class Moment(NamedTuple):
 
 
 def answer_of(end, call):
-    try:
-        match call:
-            case Audio(time, place, octets):
-                return end.audio(time, place, len(octets))
-            case Event(which, time, message):
-                return end.event(which, time, message)
-            case Due(which, time, room):
-                return end.due(which, time, room)
-            case Arrive(time, uui, octets, _):
-                return end.arrive(time, uui, octets)
-    except Refused as refused:
-        return refused
+    match call:
+        case Audio(time, place, octets):
+            return answered(end.audio, time, place, len(octets))
+        case Event(which, time, message):
+            return answered(end.event, which, time, message)
+        case Due(which, time, room):
+            return answered(end.due, which, time, room)
+        case Arrive(time, uui, octets, _):
+            return answered(end.arrive, time, uui, octets)
 
 
 class Ends:

@@ -1,49 +1,47 @@
-#!/usr/bin/python3
 """Lines for the rack with their answers, made from the rules alone and not by the programs.
 
-Writes crates/rack/stdin and crates/rack/stdout. No line hangs on chance: the seed is fixed.
+Writes crates/rack/stdin and crates/rack/stdout. No line is random: the seed is fixed.
 """
 
 import heapq
 import random
-import sys
-from collections import Counter
 from itertools import count
-from pathlib import Path
-from types import SimpleNamespace
 
-sys.dont_write_bytecode = True
-ROOT = Path(__file__).resolve().parents[2]
-sys.path.insert(0, str(ROOT / "tests" / "oracle"))
-from end import EXAMPLES, KINDS, LAST_TIME as LAST, STAMPS, CasBits, Digit, End, Entry, Nothing, Payload, Refused, load, new_digit, span_of, written
-from rack import Rack
+from end import EXAMPLES, KINDS, LAST_TIME as LAST, STAMPS, Digit, End, Entry, Nothing, Payload, Refused
+from end import framed, load, new_digit, span_of, written
+from lines import DAY, HOUR, LARGEST, Lines, changed
+from rack import FIELDS, Rack, entry_line
 
-LARGEST = 2**64 - 1
 HALF = STAMPS // 2
-HOUR, DAY = 3600000, 86400000
 DIGIT, CAS = KINDS
 FIVE = Digit(0, 5, 10)
 
+
+def sort_of(answer):
+    """A refusal without its place; of audio, labels and octets the first word; of news its class and redundancy."""
+    words = answer.split(" ")
+    if words[0] == "refused":
+        return " ".join(words[:3] + (words[3:] if words[3:4] == ["cause"] else []))
+    if words[0] in ("digit", "cas") and words[1] in ("event", "confirmed", "recovered"):
+        return " ".join(words[:3])
+    return answer if words[0] in ("repeat", "late") else words[0]
+
+
 rng = random.Random(366)
-calls = []
+lines = Lines("rack", sort_of)
 rack = Rack()
 
 
 # ---- lines
 
 def call(line, expected=None):
-    """A line and its answer."""
+    """A line, as text or octets, and its answer."""
     octets = line if isinstance(line, bytes) else line.encode()
-    assert b"\n" not in octets
-    answer = rack.answer(octets)
-    assert expected is None or answer == expected, (line, answer, expected)
-    calls.append((octets, answer))
-    return answer
+    return lines.add(octets, rack.answer(octets), expected)
 
 
 def entry(entry, expected="ok"):
-    index = "-" if entry.index is None else entry.index
-    call(f"entry {index} " + " ".join(str(part) for part in entry[1:]), expected)
+    call(entry_line(entry), expected)
 
 
 def offer(entries, expected="ok"):
@@ -57,7 +55,8 @@ def fresh(entries):
     if rack.end is not None:
         call("stop", "ok")
     if rng.random() < 0.3:
-        call(rng.choice(["stop", "force cas", "due digit 5 6", "audio 0 0 40", "event cas 0 1 0 0 1", "arrive 0 3 -"]), "error")
+        calls = ["stop", "force cas", "due digit 5 6", "audio 0 0 40", "event cas 0 1 0 0 1", "arrive 0 3 -"]
+        call(rng.choice(calls), "error")
     if rack.profile != entries or rng.random() < 0.3:
         offer(entries)
     call("start", "ok")
@@ -87,13 +86,8 @@ def message(time, kind, redundancy, stamp, what, expected=None):
     return arrive(time, 24, written(kind, Payload(redundancy, stamp % STAMPS, what)), expected)
 
 
-def framed(redundancy, stamp, body, message_type):
-    """A payload with a right check, whatever it says."""
-    return written(SimpleNamespace(message_type=message_type, body=lambda body: body), Payload(redundancy, stamp, body))
-
-
 def bits_of(number):
-    return CasBits(*(int(bit) for bit in f"{number:04b}"))
+    return CAS.read([number])
 
 
 # ---- set-up
@@ -103,8 +97,8 @@ GOOD = Entry(None, 9, 0, 7, 40, 5, 5)
 
 def as_it_begins():
     """A new rack has example A, and is in set-up."""
-    for line in ("audio 0 0 40", "event digit 0 0 5 -10", "event cas 0 1 0 1 0", "due digit 0 6", "due cas 0 5", "arrive 0 24 -", "arrive 0 3 00",
-                 "force digit", "force cas", "stop"):
+    for line in ("audio 0 0 40", "event digit 0 0 5 -10", "event cas 0 1 0 1 0", "due digit 0 6", "due cas 0 5",
+                  "arrive 0 24 -", "arrive 0 3 00", "force digit", "force cas", "stop"):
         call(line, "error")
     call("start", "ok")
     call("start", "error")
@@ -129,9 +123,7 @@ def refused_profiles():
     def refused(number, place, entries):
         offer(entries, f"refused {number} profile place {place}")
 
-    refused(1, 0, [])
-    refused(1, 0, [])
-    for many in (33, 34, 70):
+    for many in (0, 0, 33, 34, 70):
         refused(1, 0, [Entry(0, 0, 0, 15, 1 + i % 64, 5, 5) for i in range(many)])
     refused(7, 31, [Entry(0, 0, 0, 15, 1 + i % 31, 5, 5) for i in range(32)])
     for first, last in ((1, 0), (0, 16), (16, 16), (65535, 65535), (0, 65535), (7, 6)):
@@ -140,7 +132,8 @@ def refused_profiles():
         refused(3, 0, [GOOD._replace(length=length, first=1)])
     for first, last in ((0, 2), (1, 2), (4, 11), (0, 4), (1, 8), (2, 15), (8, 14)):
         refused(4, 0, [GOOD._replace(first=first, last=last, interval=0)])
-    for packet_time, interval in ((5, 0), (256, 256), (65535, 65535), (0, 5), (6, 5), (4, 5), (65536, 1), (2**32 - 1, 255), (65540, 5), (2**32 - 1, 1)):
+    for packet_time, interval in ((5, 0), (256, 256), (65535, 65535), (0, 5), (6, 5), (4, 5), (65536, 1),
+                                  (2**32 - 1, 255), (65540, 5), (2**32 - 1, 1)):
         refused(5, 0, [GOOD._replace(packet_time=packet_time, interval=interval)])
     for place in (1, 5, 31):
         before = [GOOD._replace(length=1 + i) for i in range(place)]
@@ -154,7 +147,8 @@ def refused_profiles():
         refused(6, place, [*before, bad._replace(last=3, length=1)])
         refused(7, place, [*before, bad._replace(length=place)])
         refused(7, place, [*before, bad._replace(length=1, index=3, format=3, packet_time=50), bad._replace(length=0)][:32])
-    mixed = [Entry(0, 1, 0, 7, 40, 5, 5), Entry(1, 3, 8, 15, 40, 10, 5), Entry(2, 3, 8, 15, 20, 5, 5), Entry(None, 9, 0, 15, 1, 5, 5)]
+    mixed = [Entry(0, 1, 0, 7, 40, 5, 5), Entry(1, 3, 8, 15, 40, 10, 5), Entry(2, 3, 8, 15, 20, 5, 5),
+             Entry(None, 9, 0, 15, 1, 5, 5)]
     refused(6, 3, mixed)
     call("load", "refused 1 profile place 0")
     call("start", "ok")
@@ -388,15 +382,14 @@ def arrivals_refused():
             arrive(now + 500, 24, bytes(size), "refused 23 type3")
         for octets in (framed(0, 1, [10, 5], 2), framed(3, 1, [5], 3)):
             for place in range(8 * len(octets)):
-                spoiled = bytearray(octets)
-                spoiled[place // 8] ^= 128 >> place % 8
-                arrive(now + 500, 24, bytes(spoiled), "refused 24 type3")
+                arrive(now + 500, 24, changed(octets, [place]), "refused 24 type3")
         for message_type in (0, 1, 4, 62, 63):
             arrive(now + 500, 24, framed(0, 1, [1], message_type), "refused 25 type3")
         for message_type, lengths in ((2, (1, 3, 8)), (3, (2, 8))):
             for length in lengths:
                 arrive(now + 500, 24, framed(0, 1, [255] * length, message_type), "refused 26 type3")
-        for cause, bodies in ((1, ([32, 5], [255, 255])), (2, ([10, 128], [31, 255])), (3, ([10, 16], [10, 47], [0, 64], [0, 96], [0, 30]))):
+        wrong = {1: ([32, 5], [255, 255]), 2: ([10, 128], [31, 255]), 3: ([10, 16], [10, 47], [0, 64], [0, 96], [0, 30])}
+        for cause, bodies in wrong.items():
             for body in bodies:
                 arrive(now + 500, 24, framed(3, 1, body, 2), f"refused 27 kind cause {cause}")
         for body in (16, 128, 255):
@@ -485,12 +478,12 @@ event digit TIME 0 5 -10|event digit 5000 TYPE 5 -10|event digit 5000 0 CODE -10
 event cas TIME 1 0 1 0|event cas 5000 A 0 1 0|event cas 5000 1 B 1 0|event cas 5000 1 0 C 0|event cas 5000 1 0 1 D|\
 due digit TIME 6|due digit 5000 ROOM|due cas TIME 5|due cas 5000 ROOM|arrive TIME 24 00000a050aeb|arrive 5000 UUI 00000a050aeb\
 """.split("|")
-TOO_GREAT = {"INDEX": 256, "FORMAT": 256, "FIRST": 65536, "LAST": 65536, "LENGTH": 65536, "PACKET_TIME": 2**32, "INTERVAL": 65536, "TIME": 2**64, "PLACE": 2**64,
-             "ROOM": 2**64, "TYPE": 256, "CODE": 256, "LEVEL": 128, "UUI": 65536, "A": 2, "B": 2, "C": 2, "D": 2}
-WHOLE = ["entry - 1 0 7 40 5 5", "load", "start", "stop", "audio 5000 0 40", "event digit 5000 0 5 -10", "event cas 5000 1 0 1 0", "due digit 5000 6",
-         "due cas 5000 5", "arrive 5000 24 00000a050aeb", "force digit", "force cas"]
+WHOLE = ["entry - 1 0 7 40 5 5", "load", "start", "stop", "audio 5000 0 40", "event digit 5000 0 5 -10",
+         "event cas 5000 1 0 1 0", "due digit 5000 6", "due cas 5000 5", "arrive 5000 24 00000a050aeb", "force digit",
+         "force cas"]
 # what an end in set-up does not allow
-STOPPED = ("stop", "force cas", "audio 70 0 40", "event digit 70 9 0 0", "event cas 70 1 1 1 1", "due digit 70 0", "arrive 70 99 -")
+STOPPED = ("stop", "force cas", "audio 70 0 40", "event digit 70 9 0 0", "event cas 70 1 1 1 1", "due digit 70 0",
+           "arrive 70 99 -")
 
 
 def bad(line):
@@ -501,11 +494,13 @@ def no_numbers(line, name):
     """A word in the place of a number that is none, or too great."""
     parts = line.split(" ")
     place = parts.index(name)
+    _, too_great = FIELDS[name]
 
     def with_word(word):
         return " ".join([*parts[:place], word, *parts[place + 1:]])
 
-    words = ["", "x", "+1", "01", "00", "1.0", "0x1", "1e0", "٣", "1_0", "-0", "--1", "1-", "−1", str(TOO_GREAT[name]), str(10 * TOO_GREAT[name] + 9), "9" * 40]
+    words = ["", "x", "+1", "01", "00", "1.0", "0x1", "1e0", "٣", "1_0", "-0", "--1", "1-", "−1"]
+    words += [str(too_great), str(10 * too_great + 9), "9" * 40]
     words += ["-129", "-0128", "-+1"] if name == "LEVEL" else ["-1"]
     if name != "INDEX":
         words.append("-")
@@ -514,7 +509,8 @@ def no_numbers(line, name):
 
 
 def octets_malformed():
-    for word in ("", "0", "00000a050ae", "00000A050AEB", "00000a050aeB", "0g", "--", "-00", "00-", "0x00", "00 00", "00,00", "é0", "+0", "00\t"):
+    for word in ("", "0", "00000a050ae", "00000A050AEB", "00000a050aeB", "0g", "--", "-00", "00-", "0x00", "00 00",
+                  "00,00", "é0", "+0", "00\t"):
         bad(f"arrive 5000 24 {word}")
         bad(f"arrive 5000 3 {word}")
 
@@ -523,8 +519,8 @@ def other_lines():
     """Blanks, letters, words and octets that make a line none."""
     for line in WHOLE:
         words = line.split(" ")
-        for wrong in (f" {line}", f"{line} ", f"{line}\r", f"{line}\t", line.upper(), line.capitalize(), f"{line} 0", f"{line} -",
-                      f"\ufeff{line}", f"{line}\u00a0", f"{line};", f"{words[0]}s {line}", f"\r{line}"):
+        for wrong in (f" {line}", f"{line} ", f"{line}\r", f"{line}\t", line.upper(), line.capitalize(), f"{line} 0",
+                      f"{line} -", f"\ufeff{line}", f"{line}\u00a0", f"{line};", f"{words[0]}s {line}", f"\r{line}"):
             bad(wrong)
         for place in range(1, len(words)):
             for between in ("  ", "\t", "", " \t"):
@@ -535,10 +531,11 @@ def other_lines():
         for octets in (b"\xff", b"\xc3", b"\x80", b"\xed\xa0\x80"):
             bad(line.encode() + octets)
             bad(octets + b" " + line.encode())
-    for line in ("  ", "\t", "\r", "-", "0", "help", "quit", "# load", "new", "due", "due 5000 6", "due audio 5000 6", "due digit cas 5000 6",
-                 "force", "force audio", "force digit cas", "event", "event audio 5000 0", "event 5000 0 5 -10", "event digit", "event digit 5000",
-                 "event cas 5000 1010", "event cas 5000 1 0 1", "event cas 5000 true 0 1 0", "arrive 5000 24", "arrive 5000", "arrive -",
-                 "entry", "entry -", "entry - - 0 7 40 5 5", "load 1", "start A", "é", "lo\u0001ad"):
+    for line in ("  ", "\t", "\r", "-", "0", "help", "quit", "# load", "new", "due", "due 5000 6", "due audio 5000 6",
+                  "due digit cas 5000 6", "force", "force audio", "force digit cas", "event", "event audio 5000 0",
+                  "event 5000 0 5 -10", "event digit", "event digit 5000", "event cas 5000 1010",
+                  "event cas 5000 1 0 1", "event cas 5000 true 0 1 0", "arrive 5000 24", "arrive 5000", "arrive -",
+                  "entry", "entry -", "entry - - 0 7 40 5 5", "load 1", "start A", "é", "lo\u0001ad"):
         bad(line)
 
 
@@ -577,18 +574,18 @@ def errors():
 class Network:
     """A far end whose packets are lost, doubled, held back, spoiled, and mixed with foreign ones."""
 
-    def __init__(self, entries, start):
+    def __init__(self, entries):
         self.end = End(load(entries))
-        self.start = start
         self.apart = rng.choice([0, 1, 40, STAMPS, DAY, 10 * DAY]) * rng.choice([1, 1, 3])
         self.age = rng.choice([10, 50, 9999])
         self.number = count()
         self.waiting = []
 
     def sent(self, now, uui, octets, span):
-        """Some are held for less than half a span, so that they come in another order; some for longer, and no rule holds for those."""
+        """Some are held for less than half a span, so that they come in another order; some longer, against the rule."""
         for _ in range(rng.choice([0, 1, 1, 1, 1, 2])):
-            near, far = (rng.randrange((span + 1) // 2) for _ in range(2)), (span // 2, span, rng.randrange(5 * span), rng.choice([0, 0, 0, HOUR]))
+            near = (rng.randrange((span + 1) // 2) for _ in range(2))
+            far = span // 2, span, rng.randrange(5 * span), rng.choice([0, 0, 0, HOUR])
             held = rng.choice([0, 0, 0, 1, *near, *far])
             heapq.heappush(self.waiting, (now + self.age + held, next(self.number), uui, octets))
 
@@ -624,11 +621,12 @@ class Network:
 
     def other(self, time, uui, octets):
         """What is no copy of a packet, or comes at no time."""
-        spoiled = bytearray(octets)
-        for place in rng.sample(range(8 * len(octets)), min(rng.randrange(1, 6), 8 * len(octets))):
-            spoiled[place // 8] ^= 128 >> place % 8
-        arrive(*rng.choice([(time, uui, bytes(spoiled)), (max(time - rng.randrange(100), 0), uui, octets), (time, rng.choice([16, 23, 25, 40, 65535]), octets),
-                            (time, uui, octets[1:]), (time, uui, octets + b"\0"), (time, 24, octets), (time, rng.randrange(16), octets), (LAST + 1, uui, octets)]))
+        bits = 8 * len(octets)
+        spoiled = changed(octets, rng.sample(range(bits), min(rng.randrange(1, 6), bits)))
+        earlier, foreign = max(time - rng.randrange(100), 0), rng.choice([16, 23, 25, 40, 65535])
+        arrive(*rng.choice([(time, uui, spoiled), (earlier, uui, octets), (time, foreign, octets), (time, uui, octets[1:]),
+                            (time, uui, octets + b"\0"), (time, 24, octets), (time, rng.randrange(16), octets),
+                            (LAST + 1, uui, octets)]))
 
 
 def some_digit():
@@ -669,17 +667,19 @@ def some_profile():
         length = rng.choice([1, 2, 10, 20, 40, 64])
         if all((other.first, other.length) != (first, length) for other in entries):
             packet_time = interval * rng.choice([1, 1, 2, 5])
-            entries.append(Entry(rng.choice([None, 0, 255]), rng.randrange(256), first, first + width - 1, length, packet_time, interval))
+            index, format = rng.choice([None, 0, 255]), rng.randrange(256)
+            entries.append(Entry(index, format, first, first + width - 1, length, packet_time, interval))
     return entries
 
 
 def walk(entries, steps):
     fresh(entries)
     now = rng.choice([0, 0, 1000, rng.randrange(LAST // 2)])
-    network = Network(entries, now)
+    network = Network(entries)
     span = span_of(entries)
     for _ in range(steps):
-        now += rng.choice([0, 1, 2, 5, 5, 5, 5, 5, 10, 10, 40, 100, 500, span // 2, rng.choice([HALF, STAMPS, HOUR, 5000, 5000])])
+        far_on = rng.choice([HALF, STAMPS, HOUR, 5000, 5000])
+        now += rng.choice([0, 1, 2, 5, 5, 5, 5, 5, 10, 10, 40, 100, 500, span // 2, far_on])
         network.step(now)
         if rng.random() < 0.5:
             near_step(now)
@@ -719,7 +719,7 @@ def all_arrive():
 
 
 def talk():
-    """So for audio, through silence of any length; what is later than all before it is news, by the time since the news before."""
+    """So for audio, through silence of any length: what is later than all before it is news, by the time since the last."""
     for turn in range(9):
         entries = EXAMPLES["ABC"[turn % 3]]
         fresh(entries)
@@ -729,7 +729,8 @@ def talk():
             place = rng.randrange(len(entries))
             length = entries[place].length
             delay = rng.randrange(span_of(entries) // 2)
-            packets.append((made + 30 + delay, rng.random(), made, place, far.audio(made, place, length), rng.randbytes(length)))
+            arrival = made + 30 + delay, rng.random()
+            packets.append((*arrival, made, place, far.audio(made, place, length), rng.randbytes(length)))
             made += entries[place].packet_time + rng.choice([0, 0, 0, 0, 0, 5, 5 * rng.randrange(40), HOUR, DAY + 5])
         first = latest = None
         for time, _, made, place, uui, octets in sorted(packets):
@@ -742,55 +743,36 @@ def talk():
 
 # ---- all of them
 
-def sort_of(answer):
-    """A refusal without its place; of audio, labels and octets the first word; of news its class and redundancy."""
-    words = answer.split(" ")
-    if words[0] == "refused":
-        return " ".join(words[:3] + (words[3:] if words[3:4] == ["cause"] else []))
-    if words[0] in ("digit", "cas") and words[1] in ("event", "confirmed", "recovered"):
-        return " ".join(words[:3])
-    return answer if words[0] in ("repeat", "late") else words[0]
-
-
 def is_enough():
     """Every answer that a call has comes often."""
-    counted = Counter(f"{line.split(b' ')[0].decode(errors='replace')} {sort_of(answer)}" for line, answer in calls)
-
-    def often(call, answers, least):
-        for answer in answers:
-            assert counted[f"{call} {answer}"] >= least, (call, answer, counted[f"{call} {answer}"], counted)
-
-    often("entry", ["ok", "error"], 100)
-    often("load", ["ok", "error"], 20)
-    often("load", (f"refused {number} profile" for number in range(1, 8)), 4)
-    often("start", ["ok", "error"], 20)
-    often("stop", ["ok", "error"], 12)
-    often("audio", ["label", "error"], 100)
-    often("audio", (f"refused {number} sending" for number in range(10, 15)), 12)
-    often("event", ["ok", "error"], 100)
-    often("event", ["refused 15 sending", "refused 16 sending", "refused 17 kind", "refused 18 kind"], 8)
-    often("event", ["refused 10 sending"], 5)
-    often("due", ["sent", "nothing", "error"], 40)
-    often("due", ["refused 10 sending", "refused 15 sending", "refused 19 sending"], 4)
-    often("arrive", ["audio", "error", "repeat audio", "late audio", "repeat digit", "late digit", "repeat cas", "late cas"], 20)
-    often("arrive", (f"{stream} event {redundancy}" for stream in ("digit", "cas") for redundancy in range(3)), 15)
-    often("arrive", (f"{stream} {of} 3" for stream in ("digit", "cas") for of in ("confirmed", "recovered")), 8)
-    often("arrive", ["refused 20 arrival"], 12)
-    often("arrive", ["refused 10 arrival", "refused 21 arrival", "refused 22 arrival", "refused 23 type3", "refused 24 type3"], 20)
-    often("arrive", ["refused 25 type3", "refused 26 type3", "refused 28 placing", "refused 29 placing"], 5)
-    often("arrive", (f"refused 27 kind cause {cause}" for cause in (1, 2, 3)), 4)
-    often("force", ["digit", "cas", "none", "error"], 12)
-    assert 3000 <= len(calls) < 10000, len(calls)
+    lines.often("entry", ["ok", "error"], 100)
+    lines.often("load", ["ok", "error"], 20)
+    lines.often("load", (f"refused {number} profile" for number in range(1, 8)), 4)
+    lines.often("start", ["ok", "error"], 20)
+    lines.often("stop", ["ok", "error"], 12)
+    lines.often("audio", ["label", "error"], 100)
+    lines.often("audio", (f"refused {number} sending" for number in range(10, 15)), 12)
+    lines.often("event", ["ok", "error"], 100)
+    lines.often("event", ["refused 15 sending", "refused 16 sending", "refused 17 kind", "refused 18 kind"], 8)
+    lines.often("event", ["refused 10 sending"], 5)
+    lines.often("due", ["sent", "nothing", "error"], 40)
+    lines.often("due", ["refused 10 sending", "refused 15 sending", "refused 19 sending"], 4)
+    lines.often("arrive", ["audio", "error"], 20)
+    lines.often("arrive", (f"{word} {stream}" for word in ("repeat", "late") for stream in ("audio", "digit", "cas")), 20)
+    lines.often("arrive", (f"{stream} event {redundancy}" for stream in ("digit", "cas") for redundancy in range(3)), 15)
+    lines.often("arrive", (f"{stream} {of} 3" for stream in ("digit", "cas") for of in ("confirmed", "recovered")), 8)
+    lines.often("arrive", ["refused 20 arrival"], 12)
+    lines.often("arrive", ["refused 10 arrival", "refused 21 arrival", "refused 22 arrival"], 20)
+    lines.often("arrive", ["refused 23 type3", "refused 24 type3"], 20)
+    lines.often("arrive", ["refused 25 type3", "refused 26 type3", "refused 28 placing", "refused 29 placing"], 5)
+    lines.often("arrive", (f"refused 27 kind cause {cause}" for cause in (1, 2, 3)), 4)
+    lines.often("force", ["digit", "cas", "none", "error"], 12)
+    assert 3000 <= len(lines.lines) < 10000, len(lines.lines)
 
 
-def main():
-    for part in (as_it_begins, refused_profiles, odd_profiles, collected_apart, stopped_and_started,
-                 audio_refused, digits_made, copies_and_refreshes, sending_refused,
-                 rows, known_octets, arrivals_refused, ties_and_the_last_position, classes, hours_of_keys, errors, walks, all_arrive, talk):
-        part()
-    is_enough()
-    for name, lines in (("stdin", (line for line, _ in calls)), ("stdout", (answer.encode() for _, answer in calls))):
-        (ROOT / "crates" / "rack" / name).write_bytes(b"".join(line + b"\n" for line in lines))
-
-
-main()
+for part in (as_it_begins, refused_profiles, odd_profiles, collected_apart, stopped_and_started, audio_refused,
+             digits_made, copies_and_refreshes, sending_refused, rows, known_octets, arrivals_refused,
+             ties_and_the_last_position, classes, hours_of_keys, errors, walks, all_arrive, talk):
+    part()
+is_enough()
+lines.write()

@@ -64,6 +64,11 @@ def parsed(line):
     raise BadLine
 
 
+def entry_line(entry):
+    index = "-" if entry.index is None else entry.index
+    return f"entry {index} " + " ".join(str(part) for part in entry[1:])
+
+
 class Rack:
     """A profile, the end in service over it if it was started, and the entries that were collected."""
 

@@ -1,180 +1,105 @@
-#!/usr/bin/python3
 """Calls on sending streams with their answers, made from the rules alone and not by the programs.
 
-Writes crates/timing/stdin and crates/timing/stdout. No call hangs on chance: the seed is fixed.
+Writes crates/timing/stdin and crates/timing/stdout. No call is random: the seed is fixed.
 """
 
 import random
-import sys
-from collections import Counter
-from pathlib import Path
 
-sys.dont_write_bytecode = True
-ROOT = Path(__file__).resolve().parents[2]
-sys.path.insert(0, str(ROOT / "tests" / "vectors"))
-from rules import KEYS, TONE_OFF, cas_octets, digit_octets, shown
+from end import EXAMPLES, KEYS, KINDS, LAST_TIME as LAST, STAMPS, TONE_OFF, End, Payload, Refused
+from end import answered, new_digit, written
+from lines import DAY, HOUR, LARGEST, Lines
+from words import refusal_text, shown
 
-LAST = 1099511627775
-LARGEST = 2**64 - 1
-WRAP = 16384
-DTMF, LEVEL = 0, -10
-INTERVAL = 5
+DIGITS, CAS = 0, 1
+LEVEL = -10
 
-# of each entry: its first and last UUI, the octets of a packet, and the milliseconds of one
-PROFILES = {
-    "A": [(0, 15, 40, 5), (0, 15, 25, 5), (0, 15, 20, 5), (0, 15, 15, 5), (0, 15, 10, 5), (0, 15, 1, 5)],
-    "B": [(0, 7, 40, 5), (0, 7, 35, 5), (0, 7, 1, 5), (8, 15, 40, 5), (8, 15, 35, 5), (8, 15, 1, 5)],
-    "C": [(0, 3, 40, 5), (0, 3, 35, 5), (4, 7, 40, 10), (4, 7, 20, 5), (8, 11, 40, 40), (8, 11, 30, 30), (8, 11, 20, 20), (8, 11, 10, 10)],
-}
+
+def sort_of(answer):
+    """Of octets the redundancy; else the answer itself."""
+    return answer if answer[0].islower() else f"copy {int(answer[0], 16) >> 2}"
+
 
 rng = random.Random(16384)
-calls = []
-
-
-# ---- the rules
-
-def key_octets(redundancy, time, code):
-    return shown(digit_octets(redundancy, time % WRAP, DTMF, code, LEVEL))
-
-
-def bits_octets(redundancy, time, bits):
-    return shown(cas_octets(redundancy, time % WRAP, bits))
-
-
-class Messages:
-    """A message stream: its latest event, and when the packets since then went out."""
-
-    def __init__(self, name, room, octets, gap):
-        self.name, self.room, self.octets, self.gap = name, room, octets, gap
-        self.clock = 0
-        self.event_time = self.message = None
-        self.sent = []
-        self.refreshed = None
-
-    def event(self, time, message):
-        if time > LAST:
-            return "refused 10"
-        if time < self.clock:
-            return "refused 15"
-        if any(made_for is not None and time <= made_for for made_for in (self.event_time, self.refreshed)):
-            return "refused 16"
-        self.clock = self.event_time = time
-        self.message = message
-        self.sent = []
-        return "accepted"
-
-    def moment(self):
-        """When the next packet is due, if one is to come."""
-        if self.event_time is None:
-            return None
-        if len(self.sent) < 3:
-            return self.event_time + 5 * len(self.sent)
-        gap = self.gap(self.message)
-        return None if gap is None else self.sent[-1] + gap
-
-    def due(self, time, room):
-        if time > LAST:
-            return "refused 10"
-        if time < self.clock:
-            return "refused 15"
-        if room < self.room:
-            return "refused 19"
-        self.clock = time
-        moment = self.moment()
-        if moment is None or time < moment:
-            return "nothing"
-        redundancy = min(len(self.sent), 3)
-        if redundancy == 3:
-            self.refreshed = time
-        self.sent.append(time)
-        return self.octets(redundancy, time if redundancy == 3 else self.event_time, self.message)
-
-
-class Audio:
-    """An audio stream under a profile: the end of its last packet."""
-
-    def __init__(self, entries):
-        self.entries = entries
-        self.end = 0
-
-    def audio(self, time, place, length):
-        if time > LAST:
-            return "refused 10"
-        if place >= len(self.entries):
-            return "refused 11"
-        first, last, octets, packet_time = self.entries[place]
-        if length != octets:
-            return "refused 12"
-        if time % INTERVAL != 0:
-            return "refused 13"
-        if time < self.end:
-            return "refused 14"
-        self.end = time + packet_time
-        return f"uui {first + time // INTERVAL % (last - first + 1)}"
-
-
-class Trunk:
-    def __init__(self):
-        self.keys = Messages("duekey", 6, key_octets, lambda code: None if code == TONE_OFF else 500)
-        self.cas = Messages("duecas", 5, bits_octets, lambda bits: 5000)
-        self.audio = None
-
-
-trunk = Trunk()
+lines = Lines("timing", sort_of)
+trunk = None
 
 
 # ---- calls
 
-def call(line, answer, expected=None):
-    assert expected is None or answer == expected, (line, answer, expected)
-    calls.append((line, answer))
+def said(call, *values):
+    """What the end answers, in the program's words."""
+    match answered(call, *values):
+        case None:
+            return "accepted"
+        case int() as label:
+            return f"uui {label}"
+        case bytes() as octets:
+            return shown(octets)
+        case Refused() as refused:
+            return refusal_text(refused)
+        case nothing:
+            return str(nothing)
 
 
 def new():
     global trunk
-    trunk = Trunk()
-    call("new", "new")
+    trunk = End(EXAMPLES["A"])
+    lines.add("new", "new")
 
 
 def profile(name):
-    trunk.audio = Audio(PROFILES[name])
-    call(f"profile {name}", "loaded")
+    trunk.profile, trunk.audio_end = EXAMPLES[name], 0
+    lines.add(f"profile {name}", "loaded")
+
+
+def digit_of(code):
+    return new_digit(0, code, LEVEL)
+
+
+def bits_of(number):
+    return KINDS[CAS].read([number])
+
+
+def octets_of(which, redundancy, time, message):
+    return shown(written(KINDS[which], Payload(redundancy, time % STAMPS, message)))
+
+
+def key_octets(redundancy, time, code):
+    return octets_of(DIGITS, redundancy, time, digit_of(code))
+
+
+def bits_octets(redundancy, time, bits):
+    return octets_of(CAS, redundancy, time, bits_of(bits))
 
 
 def key(time, character, expected=None):
-    if character in KEYS:
-        answer = trunk.keys.event(time, KEYS.index(character))
-    else:
-        answer = "refused 18"
-    call(f"key {time} {character}", answer, expected)
+    code = KEYS.find(character)
+    answer = "refused 18" if code < 0 else said(trunk.event, DIGITS, time, digit_of(code))
+    lines.add(f"key {time} {character}", answer, expected)
 
 
 def off(time, expected=None):
-    call(f"off {time}", trunk.keys.event(time, TONE_OFF), expected)
+    lines.add(f"off {time}", said(trunk.event, DIGITS, time, digit_of(TONE_OFF)), expected)
 
 
 def cas(time, bits, expected=None):
-    call(f"cas {time} {bits:04b}", trunk.cas.event(time, bits), expected)
+    lines.add(f"cas {time} {bits:04b}", said(trunk.event, CAS, time, bits_of(bits)), expected)
 
 
-def due(stream, time, room, expected=None):
-    call(f"{stream.name} {time} {room}", stream.due(time, room), expected)
+def due(which, time, expected=None, room=12):
+    lines.add(f"{('duekey', 'duecas')[which]} {time} {room}", said(trunk.due, which, time, room), expected)
 
 
 def duekey(time, expected=None, room=12):
-    due(trunk.keys, time, room, expected)
+    due(DIGITS, time, expected, room)
 
 
 def duecas(time, expected=None, room=12):
-    due(trunk.cas, time, room, expected)
+    due(CAS, time, expected, room)
 
 
 def audio(time, place, length, expected=None):
-    call(f"audio {time} {place} {length}", trunk.audio.audio(time, place, length), expected)
-
-
-def bad(line):
-    call(line, "bad line")
+    lines.add(f"audio {time} {place} {length}", said(trunk.audio, time, place, length), expected)
 
 
 # ---- examples
@@ -215,17 +140,16 @@ def known_octets():
 def late():
     """An hour later copy 0 still comes first, and all copies have the stamp of the event."""
     new()
-    hour = 3600000
     key(1000, "#", "accepted")
     cas(1000, 6, "accepted")
     for redundancy in range(3):
-        duekey(1000 + hour, key_octets(redundancy, 1000, 11))
-        duecas(1000 + hour, bits_octets(redundancy, 1000, 6))
-    duekey(1000 + hour, "nothing")
-    duekey(1499 + hour, "nothing")
-    duekey(1500 + hour, key_octets(3, 1500 + hour, 11))
-    duecas(5999 + hour, "nothing")
-    duecas(6000 + hour, bits_octets(3, 6000 + hour, 6))
+        duekey(1000 + HOUR, key_octets(redundancy, 1000, 11))
+        duecas(1000 + HOUR, bits_octets(redundancy, 1000, 6))
+    duekey(1000 + HOUR, "nothing")
+    duekey(1499 + HOUR, "nothing")
+    duekey(1500 + HOUR, key_octets(3, 1500 + HOUR, 11))
+    duecas(5999 + HOUR, "nothing")
+    duecas(6000 + HOUR, bits_octets(3, 6000 + HOUR, 6))
 
 
 def ended():
@@ -371,7 +295,7 @@ def clocks():
 def every_millisecond():
     """With a due call at each millisecond every packet goes out at its moment, on both sides of the stamp's wrap."""
     new()
-    start = 3 * WRAP - 505
+    start = 3 * STAMPS - 505
     key(start, "D", "accepted")
     cas(start - 4500, 10, "accepted")
     for after in (*range(21), *range(500, 521), *range(1000, 1021)):
@@ -397,7 +321,7 @@ def labels():
     profile("A")
     for start in (60, 200):
         for time in range(start, start + 100, 5):
-            audio(time, time // 5 % 6, PROFILES["A"][time // 5 % 6][2], f"uui {time // 5 % 16}")
+            audio(time, time // 5 % 6, EXAMPLES["A"][time // 5 % 6].length, f"uui {time // 5 % 16}")
     profile("C")
     audio(0, 4, 40, "uui 8")
     audio(35, 7, 10, "refused 14")
@@ -413,11 +337,11 @@ def labels():
 
 def audio_refused():
     """In the order of the questions; a refusal changes nothing."""
-    for name, entries in PROFILES.items():
+    for name, entries in EXAMPLES.items():
         new()
         profile(name)
         none = len(entries)
-        length = entries[0][2]
+        length = entries[0].length
         audio(LAST + 1, none, 0, "refused 10")
         audio(LARGEST, 0, length, "refused 10")
         audio(13, none, 0, "refused 11")
@@ -426,16 +350,16 @@ def audio_refused():
             audio(1003, 0, wrong, "refused 12")
         for time in (1, 4, 6, 1003, LAST - 1):
             audio(time, 0, length, "refused 13")
-        audio(0, 0, length, f"uui {entries[0][0]}")
+        audio(0, 0, length, f"uui {entries[0].first}")
         audio(0, 0, length, "refused 14")
         audio(3, 0, length, "refused 13")
         audio(0, 0, 2, "refused 12")
         audio(0, none, 2, "refused 11")
-        for place, (_, _, octets, _) in enumerate(entries):
-            audio(1000 + 100 * place, place, octets)
-        audio(LAST, none - 1, entries[-1][2])
-        audio(LAST, none - 1, entries[-1][2], "refused 14")
-        audio(LAST + 5, none - 1, entries[-1][2], "refused 10")
+        for place, entry in enumerate(entries):
+            audio(1000 + 100 * place, place, entry.length)
+        audio(LAST, none - 1, entries[-1].length)
+        audio(LAST, none - 1, entries[-1].length, "refused 14")
+        audio(LAST + 5, none - 1, entries[-1].length, "refused 10")
 
 
 def apart():
@@ -453,7 +377,7 @@ def apart():
     duecas(99, "refused 15")
     duekey(5005, key_octets(1, 5000, 12))
     new()
-    bad("audio 5 0 40")
+    lines.bad("audio 5 0 40")
     key(0, "A", "accepted")
     cas(0, 3, "accepted")
 
@@ -462,15 +386,17 @@ def bad_lines():
     """They change nothing."""
     new()
     profile("A")
-    for line in ("", " ", "new ", " new", "NEW", "new 1", "profile", "profile ", "profile D", "profile a", "profile A B",
-                 "key", "key 90", "key 90 ", "key 90 55", "key  5", "key x 5", "key -1 5", "key 1.5 5", f"key {LARGEST + 1} 5", "key 90 5 5",
-                 "off", "off ", "off x", "off 90 5", f"off {LARGEST + 1}",
-                 "cas 90", "cas 90 ", "cas 90 000", "cas 90 00000", "cas 90 0002", "cas x 0000", f"cas {LARGEST + 1} 0000", "cas 90 0000 0",
-                 "duekey 90", "duekey 90 17", "duekey 90 255", "duekey 90 256", f"duekey 90 {LARGEST + 1}", "duekey 90 -1", "duekey 90 x",
-                 f"duekey {LARGEST + 1} 12", "duekey 90 12 0", "duecas 90", "duecas 90 17", "duecas 90 -1", "duecas x 12", f"duecas {LARGEST + 1} 12",
-                 "audio", "audio 90", "audio 90 0", "audio 90 0 256", "audio 90 0 -1", "audio 90 0 x", f"audio 90 {LARGEST + 1} 40",
-                 f"audio {LARGEST + 1} 0 40", "audio x 0 40", "audio 90 0 40 0", "due 90 12", "Key 90 5", "dueKey 90 12"):
-        bad(line)
+    for line in ("", " ", "new ", " new", "NEW", "new 1", "profile", "profile ", "profile D", "profile a",
+                 "profile A B", "key", "key 90", "key 90 ", "key 90 55", "key  5", "key x 5", "key -1 5", "key 1.5 5",
+                 f"key {LARGEST + 1} 5", "key 90 5 5", "off", "off ", "off x", "off 90 5", f"off {LARGEST + 1}",
+                 "cas 90", "cas 90 ", "cas 90 000", "cas 90 00000", "cas 90 0002", "cas x 0000",
+                 f"cas {LARGEST + 1} 0000", "cas 90 0000 0", "duekey 90", "duekey 90 17", "duekey 90 255",
+                 "duekey 90 256", f"duekey 90 {LARGEST + 1}", "duekey 90 -1", "duekey 90 x", f"duekey {LARGEST + 1} 12",
+                 "duekey 90 12 0", "duecas 90", "duecas 90 17", "duecas 90 -1", "duecas x 12",
+                 f"duecas {LARGEST + 1} 12", "audio", "audio 90", "audio 90 0", "audio 90 0 256", "audio 90 0 -1",
+                 "audio 90 0 x", f"audio 90 {LARGEST + 1} 40", f"audio {LARGEST + 1} 0 40", "audio x 0 40",
+                 "audio 90 0 40 0", "due 90 12", "Key 90 5", "dueKey 90 12"):
+        lines.bad(line)
     audio(0, 0, 40, "uui 0")
     duekey(0, "nothing")
     duecas(0, "nothing")
@@ -481,15 +407,15 @@ def bad_lines():
 # ---- calls at random
 
 SMALL = [0, 1, 2, 4, 5, 6, 9, 10, 11, 100, 499, 500, 501]
-LARGE = [4999, 5000, 5001, 10000, WRAP - 1, WRAP, WRAP + 1, 5 * WRAP, 3600000, 86400000]
+LARGE = [4999, 5000, 5001, 10000, STAMPS - 1, STAMPS, STAMPS + 1, 5 * STAMPS, HOUR, DAY]
 
 
 def some_start():
     return rng.choice([
         0,
         rng.randrange(20000),
-        WRAP * rng.randint(1, 5) - rng.randint(0, 30),
-        WRAP * rng.randint(1, 2**26 - 1) - rng.randint(0, 600),
+        STAMPS * rng.randint(1, 5) - rng.randint(0, 30),
+        STAMPS * rng.randint(1, 2**26 - 1) - rng.randint(0, 600),
         rng.randrange(LAST),
         LAST - rng.randint(0, 12000),
     ])
@@ -497,7 +423,7 @@ def some_start():
 
 def near(stream):
     """A time by one that matters to the stream."""
-    marks = [stream.clock, stream.moment(), stream.event_time, stream.refreshed, (stream.clock // WRAP + 1) * WRAP]
+    marks = [stream.clock, stream.moment(), stream.event_time, stream.refreshed, (stream.clock // STAMPS + 1) * STAMPS]
     return rng.choice([mark for mark in marks if mark is not None]) + rng.choice([-1, 0, 0, 0, 1])
 
 
@@ -516,14 +442,15 @@ def some_time(stream):
     return max(time, 0)
 
 
-def some_room(stream):
+def some_room(which):
+    least = KINDS[which].length + 4
     if rng.random() < 0.75:
-        return rng.choice([stream.room, stream.room, stream.room + 1, 12, 16])
-    return rng.choice([stream.room - 1, stream.room - 1, 0, rng.randint(0, 16)])
+        return rng.choice([least, least, least + 1, 12, 16])
+    return rng.choice([least - 1, least - 1, 0, rng.randint(0, 16)])
 
 
-def some_event(stream, time):
-    if stream is trunk.cas:
+def some_event(which, time):
+    if which == CAS:
         cas(time, rng.randrange(16))
     elif rng.random() < 0.3:
         off(time)
@@ -531,20 +458,22 @@ def some_event(stream, time):
         key(time, rng.choice(KEYS if rng.random() < 0.97 else "xEad+_~"))
 
 
-def some_message_call(stream):
+def some_message_call(which):
+    stream = trunk.out[which]
     if rng.random() < 0.22:
-        some_event(stream, some_time(stream))
+        some_event(which, some_time(stream))
     else:
-        due(stream, some_time(stream), some_room(stream))
+        due(which, some_time(stream), room=some_room(which))
 
 
 def some_audio():
-    entries = trunk.audio.entries
+    entries = trunk.profile
     place = rng.randrange(len(entries) if rng.random() < 0.93 else len(entries) + 3)
-    time = trunk.audio.end + rng.choice([0, 0, 0, 5, 10, 75, 80, 85, 5 * rng.randrange(10000), -5, -10, -rng.randrange(50), rng.randrange(50)])
-    length = entries[place % len(entries)][2]
+    later = [0, 0, 0, 5, 10, 75, 80, 85, 5 * rng.randrange(10000), -5, -10, -rng.randrange(50), rng.randrange(50)]
+    time = trunk.audio_end + rng.choice(later)
+    length = entries[place % len(entries)].length
     if rng.random() < 0.12:
-        length = rng.choice([0, 1, length - 1, length + 1, rng.choice(entries)[2], rng.randrange(256)])
+        length = rng.choice([0, 1, length - 1, length + 1, rng.choice(entries).length, rng.randrange(256)])
     if rng.random() < 0.02:
         time = rng.choice([LAST, LAST + 1, LARGEST])
     audio(max(time, 0), place, length)
@@ -553,14 +482,14 @@ def some_audio():
 def wander():
     for turn in range(400):
         new()
-        streams = [[trunk.keys], [trunk.cas], [trunk.keys, trunk.cas]][turn % 3]
+        streams = [[DIGITS], [CAS], [DIGITS, CAS]][turn % 3]
         with_audio = turn % 4 == 3
         if with_audio:
             profile(rng.choice("ABC"))
             start = some_start()
-            audio(start - start % 5, 0, trunk.audio.entries[0][2])
-        for stream in streams:
-            some_event(stream, some_start())
+            audio(start - start % 5, 0, trunk.profile[0].length)
+        for which in streams:
+            some_event(which, some_start())
         for _ in range(rng.randint(8, 28)):
             if with_audio and rng.random() < 0.4:
                 some_audio()
@@ -570,41 +499,21 @@ def wander():
 
 # ---- all of them
 
-def counted():
-    """How often each kind of answer comes."""
-    count = Counter()
-    for line, answer in calls:
-        what = line.split(" ")[0]
-        octets = what.startswith("due") and answer[0] in "0123456789ABCDEF"
-        count[f"{what} copy {int(answer[0], 16) >> 2}" if octets else f"{what} {answer}"] += 1
-    return count
-
-
 def is_enough():
     """Every answer that a call has comes often."""
-    count = counted()
-    for what in ("duekey", "duecas"):
-        for answer in ("copy 0", "copy 1", "copy 2", "copy 3", "nothing", "refused 15", "refused 19"):
-            assert count[f"{what} {answer}"] >= 40, (what, answer, count)
-        assert count[f"{what} refused 10"] >= 10, (what, count)
-    for what in ("key", "off", "cas"):
-        for answer in ("accepted", "refused 15", "refused 16"):
-            assert count[f"{what} {answer}"] >= 10, (what, answer, count)
-        assert count[f"{what} refused 10"] >= 2, (what, count)
-    for number in range(10, 15):
-        assert count[f"audio refused {number}"] >= 10, (number, count)
-    assert all(count[f"audio uui {uui}"] >= 5 for uui in range(16)), count
-    assert len(calls) >= 3000
+    for word in ("duekey", "duecas"):
+        lines.often(word, ["copy 0", "copy 1", "copy 2", "copy 3", "nothing", "refused 15", "refused 19"], 40)
+        lines.often(word, ["refused 10"], 10)
+    for word in ("key", "off", "cas"):
+        lines.often(word, ["accepted", "refused 15", "refused 16"], 10)
+        lines.often(word, ["refused 10"], 2)
+    lines.often("audio", (f"refused {number}" for number in range(10, 15)), 10)
+    lines.often("audio", (f"uui {uui}" for uui in range(16)), 5)
+    assert len(lines.lines) >= 3000
 
 
-def main():
-    for part in (copies_and_refreshes, known_octets, late, ended, ends_of_the_range, short_buffers, at_the_same_time, tone_off, clocks,
-                 every_millisecond, labels, audio_refused, apart, bad_lines, wander):
-        part()
-    is_enough()
-    for name, place in (("stdin", 0), ("stdout", 1)):
-        lines = "".join(pair[place] + "\n" for pair in calls)
-        (ROOT / "crates" / "timing" / name).write_text(lines, encoding="utf-8")
-
-
-main()
+for part in (copies_and_refreshes, known_octets, late, ended, ends_of_the_range, short_buffers, at_the_same_time,
+             tone_off, clocks, every_millisecond, labels, audio_refused, apart, bad_lines, wander):
+    part()
+is_enough()
+lines.write()

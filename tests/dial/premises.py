@@ -1,4 +1,3 @@
-#!/usr/bin/python3
 """Whether the network of docs/dial.md keeps the rules of the law, for numbers of 0 to 64 keys, and so the law its promises.
 
 Calls that find nothing due are left out: they change nothing that the law speaks of. It takes some minutes.
@@ -6,10 +5,9 @@ Calls that find nothing due are left out: they change nothing that the law speak
 
 import sys
 
-sys.dont_write_bytecode = True
-from make import MOST_KEYS, PROFILE, carried, merged, script
 from end import End, Nothing
 from law import answer_of, broken_premises, broken_promises, run
+from make import MOST_KEYS, PROFILE, carried, merged, script
 
 
 def ends_of(keys):
