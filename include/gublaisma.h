@@ -10,7 +10,8 @@ extern "C" {
 #endif
 
 /*
- * Reads the payload of `length` octets at `payload`, which must be there. Nothing is kept or allocated.
+ * Reads a payload. `payload` points to `length` octets that can be read, and is never NULL, not even where `length` is 0.
+ * Nothing is kept or allocated.
  *
  * A payload that is read gives
  *     message type * 65536 + octet 1 * 256 + octet 2

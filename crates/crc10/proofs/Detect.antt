@@ -3,9 +3,9 @@ use Rattle.std.proofs.Common.{◌≡◌, ℕ, zero, suc, ◌+◌, ◌/◌, ◌%�
 use Rattle.std.proofs.lemmas.Bool.{eqb-true}
 use Rattle.crc10.specs.Division.{coefficient, bring_down, divide_on, remainder}
 use Rattle.crc10.specs.Check.{bits}
-use Rattle.crc10.specs.Changes.{differences, changed, ones, from_first, few, odd, burst, ChangesAreFound}
+use Rattle.crc10.specs.Changes.{changed, ones, from_first, found, ChangesAreFound}
 use Rattle.crc10.proofs.Below.{below_at}
-use Rattle.crc10.proofs.Laws.{bring_lt, divide_xor}
+use Rattle.crc10.proofs.Laws.{bring_lt, length_differences, divide_xor}
 use Rattle.crc10.proofs.Whole.{bring_small, right_whole, length_bits}
 
 -- ---- a remainder that is not 0 stays so through zeros: the generator's lowest coefficient is 1
@@ -87,16 +87,13 @@ burst_found (false ∷ bs) o h = burst_found bs o h
 
 -- ---- the theorem
 
-changes_found : (ds : List Bool) → length ds ≤ 96 → (few ds || odd ds || burst ds) ≡ true → remainder ds ≢ 0
+changes_found : (ds : List Bool) → length ds ≤ 96 → found ds ≡ true → remainder ds ≢ 0
 changes_found ds l t = grind (arith, few_found ds, odd_found ds, burst_found ds)
-
-length_differences : (xs ys : List Bool) → length (differences xs ys) ≤ length xs
-length_differences [] ys = omega arith
-length_differences (x ∷ xs) [] = omega arith
-length_differences (x ∷ xs) (y ∷ ys) = omega (arith, length_differences xs ys)
 
 pub changes_are_found : ChangesAreFound
 changes_are_found p q h k e rp t =
+    let l : length (bits p) ≡ length (bits q) = grind (arith, length_bits) in
     let s : remainder (changed p q) ≡ bit_xor (remainder (bits p)) (remainder (bits q)) =
-    divide_xor 0 0 (bits p) (bits q) (grind (arith, length_bits)) (omega arith) (omega arith) in
-    grind (arith, s, right_whole p, right_whole q, changes_found (changed p q), length_differences (bits p) (bits q), length_bits p)
+    divide_xor 0 0 (bits p) (bits q) l (omega arith) (omega arith) in
+    let n = length_differences (bits p) (bits q) l in
+    grind (arith, s, right_whole p, right_whole q, changes_found (changed p q), n, length_bits p)

@@ -51,7 +51,8 @@ field_one (o ∷ v ∷ os) e h = absurd (omega arith)
 
 pub field_two : (p : List ℕ) (n m : ℕ) → n + 1 ≡ m → m + 1 ≡ length p → get_or p n 0 < 256 → get_or p m 0 < 256
     → check_field p ≡ get_or p n 0 % 4 * 256 + get_or p m 0
-field_two p n m e f hz hw = grind (arith, common_steps, take-append-drop, drop_more, drop_all, field_end (take n p) (get_or p n 0) (get_or p m 0) hz hw)
+field_two p n m e f hz hw =
+    grind (arith, common_steps, take-append-drop, drop_more, drop_all, field_end (take n p) (get_or p n 0) (get_or p m 0) hz hw)
 
 -- ---- the checked bits
 

@@ -5,7 +5,7 @@ use Rattle.std.proofs.lemmas.Nat.{xor_block, xor_comm, xor_lt}
 use Rattle.std.proofs.lemmas.List.{length-replicate}
 use Rattle.crc10.specs.Division.{generator, coefficient, reduced, divide_on, remainder, number, number_on, product, Leaves, Divides}
 use Rattle.crc10.specs.Changes.{unlike, differences}
-use Rattle.crc10.proofs.Laws.{taken, bring_lt, divide_lt, coefficient_lt, xor_swap}
+use Rattle.crc10.proofs.Laws.{taken, bring_lt, divide_lt, coefficient_lt, length_differences, xor_swap}
 use Rattle.crc10.proofs.Whole.{xor_cancel}
 
 shl_xor : (a b k : ℕ) → bit_xor a b * 2 ^ k ≡ bit_xor (a * 2 ^ k) (b * 2 ^ k)
@@ -46,7 +46,17 @@ quotient r (b ∷ bs) h =
     let et : t ≡ bit_xor (c * generator) s = grind (arith, taken t (omega arith), xor_comm, xor_assoc, xor_self) in (
       eqb c 1 ∷ ih.0,
       ap suc ih.1,
-      cc (number_split t bs, et, shl_xor (c * generator) s (length bs), xor_assoc (c * generator * k) (s * k) (number bs), number_split s bs, ih.2, xor_assoc (c * generator * k) (product ih.0 generator) (divide_on s bs), top c (omega arith), ih.1),
+      cc (
+        number_split t bs,
+        et,
+        shl_xor (c * generator) s (length bs),
+        xor_assoc (c * generator * k) (s * k) (number bs),
+        number_split s bs,
+        ih.2,
+        xor_assoc (c * generator * k) (product ih.0 generator) (divide_on s bs),
+        top c (omega arith),
+        ih.1,
+      ),
     )
 
 leaves : (p : List Bool) → Leaves p (remainder p)
@@ -71,16 +81,12 @@ multiple (true ∷ q) h =
     let g : generator * 2 ^ length q ≡ 1 * 2 ^ k + 0x233 * 2 ^ length q = omega arith in
     absurd (grind (arith, g, e, pow_pos (length q), xor_block k 1 0 (0x233 * 2 ^ length q) (product q generator), product_lt q))
 
-coefficient_times : (a b : Bool) (k : ℕ) → coefficient (unlike a b) * generator * k ≡ bit_xor (coefficient a * generator * k) (coefficient b * generator * k)
+coefficient_times : (a b : Bool) (k : ℕ)
+    → coefficient (unlike a b) * generator * k ≡ bit_xor (coefficient a * generator * k) (coefficient b * generator * k)
 coefficient_times true true k = grind (arith, xor_self, zero-mul)
 coefficient_times true false k = grind (arith, xor_zero_r, zero-mul)
 coefficient_times false true k = grind (arith, zero-mul)
 coefficient_times false false k = grind (arith, zero-mul)
-
-length_same : (xs ys : List Bool) → length xs ≡ length ys → length (differences xs ys) ≡ length xs
-length_same [] ys e = refl
-length_same (x ∷ xs) [] e = absurd (omega arith)
-length_same (x ∷ xs) (y ∷ ys) e = ap suc (length_same xs ys (omega arith))
 
 product_xor : (xs ys : List Bool) → length xs ≡ length ys
     → product (differences xs ys) generator ≡ bit_xor (product xs generator) (product ys generator)
@@ -90,7 +96,7 @@ product_xor (x ∷ xs) [] e = absurd (omega arith)
 product_xor (x ∷ xs) (y ∷ ys) e =
     let f : length xs ≡ length ys = omega arith in
     cc (
-      length_same xs ys f,
+      length_differences xs ys f,
       coefficient_times x y (2 ^ length xs),
       f,
       product_xor xs ys f,
@@ -112,7 +118,12 @@ only p r l =
     let ys : List Bool = replicate (length l.0) false ++ m.0 in
     let ls : length xs ≡ length ys = grind (arith, length-append, length-replicate) in
     let e : product (differences xs ys) generator ≡ bit_xor r (remainder p) =
-    cc (product_xor xs ys ls, padded (length m.0) l.0, padded (length l.0) m.0, same_left (product l.0 generator) (product m.0 generator) r (remainder p) (sym l.1 ∙ m.1)) in
+    cc (
+      product_xor xs ys ls,
+      padded (length m.0) l.0,
+      padded (length l.0) m.0,
+      same_left (product l.0 generator) (product m.0 generator) r (remainder p) (sym l.1 ∙ m.1),
+    ) in
     xor_cancel r (remainder p) (grind (arith, e, multiple (differences xs ys), xor_lt 10 r (remainder p) l.2 m.2))
 
 pub divides : Divides

@@ -61,6 +61,11 @@ pub divide_append : (r : ℕ) (xs bs : List Bool) → divide_on r (xs ++ bs) ≡
 divide_append r [] bs = refl
 divide_append r (a ∷ xs) bs = divide_append (bring_down r a) xs bs
 
+pub length_differences : (xs ys : List Bool) → length xs ≡ length ys → length (differences xs ys) ≡ length xs
+length_differences [] ys e = refl
+length_differences (x ∷ xs) [] e = absurd (omega arith)
+length_differences (x ∷ xs) (y ∷ ys) e = ap suc (length_differences xs ys (omega arith))
+
 pub divide_xor : (r s : ℕ) (xs bs : List Bool) → length xs ≡ length bs → r < 1024 → s < 1024
     → divide_on (bit_xor r s) (differences xs bs) ≡ bit_xor (divide_on r xs) (divide_on s bs)
 divide_xor r s [] [] e h k = refl

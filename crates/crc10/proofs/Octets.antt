@@ -26,7 +26,16 @@ module _ (table : List ℕ) (t : tabled table ≡ true) (r o i low : ℕ) (h : r
   octet_by_table =
       let e : get_or table i 0 ≡ crc (octet_bits i) =
       eqb-true _ _ (below_at (λ n. eqb (get_or table n 0) (crc (octet_bits n))) 256 t i (omega arith)) in
-      cc (e, ei, el, xor_shifted (r % 4) 8 o k, xor_assoc (crc (octet_bits (r / 4))) (r % 4 * 256) o, divide_split r 8 (octet_bits o) refl h, eight_zeros r h, octet_alone o k)
+      cc (
+        e,
+        ei,
+        el,
+        xor_shifted (r % 4) 8 o k,
+        xor_assoc (crc (octet_bits (r / 4))) (r % 4 * 256) o,
+        divide_split r 8 (octet_bits o) refl h,
+        eight_zeros r h,
+        octet_alone o k,
+      )
 
   pub low_by_table : bit_xor (get_or table i 0) low < 1024
   low_by_table = subst (λ (n : ℕ). n < 1024) (sym octet_by_table) (divide_lt r (octet_bits o) h)

@@ -2,7 +2,7 @@
 use Rattle.std.specs.Prelude.{◌≡◌, ℕ, ◌-◌, ◌/◌, ◌%◌, ◌^◌, Bool, false, List, [], ◌∷◌, ◌++◌, length, take, drop, replicate, codes, ◌==◌}
 use Rattle.crc10.specs.Division.{number, remainder}
 
--- the bits of octets, the highest of each octet first
+-- the bit of an octet that counts 2^k
 abbrev pub bit_of : ℕ → ℕ → Bool
 bit_of o k = o / 2 ^ k % 2 == 1
 
@@ -10,6 +10,7 @@ abbrev pub octet_bits : ℕ → List Bool
 octet_bits o =
     bit_of o 7 ∷ bit_of o 6 ∷ bit_of o 5 ∷ bit_of o 4 ∷ bit_of o 3 ∷ bit_of o 2 ∷ bit_of o 1 ∷ bit_of o 0 ∷ []
 
+-- the bits of octets, the highest of each octet first
 abbrev pub bits : List ℕ → List Bool
 bits [] = []
 bits (o ∷ os) = octet_bits o ++ bits os

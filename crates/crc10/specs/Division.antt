@@ -1,10 +1,7 @@
 -- Polynomials over bits, and their division with remainder by the generator of the check. Assumes nothing.
---
--- A polynomial over bits is the list of its coefficients, the highest power's first, or the number whose binary digits they are.
--- The sum of two is taken coefficient by coefficient, with no carry: `bit_xor`.
 use Rattle.std.specs.Prelude.{◌≡◌, ℕ, ◌+◌, ◌*◌, ◌^◌, ◌<◌, Bool, true, false, cond, List, [], ◌∷◌, length, bit_xor, nat_lt}
 
--- x^10 + x^9 + x^5 + x^4 + x + 1
+-- x^10 + x^9 + x^5 + x^4 + x + 1, as the number whose binary digits are its coefficients, the highest power's first
 abbrev pub generator : ℕ
 generator = 0x633
 
@@ -17,11 +14,12 @@ abbrev pub number_on : ℕ → List Bool → ℕ
 number_on n [] = n
 number_on n (b ∷ bs) = number_on (n * 2 + coefficient b) bs
 
+-- the polynomial of these coefficients, the highest power's first, as such a number
 abbrev pub number : List Bool → ℕ
 number bs = number_on 0 bs
 
 -- Long division. The next coefficient is brought down to the remainder so far; where that reaches degree 10, the
--- generator is taken from it, once.
+-- generator is taken from it, once. (Sums are taken coefficient by coefficient, with no carry: `bit_xor`.)
 abbrev pub reduced : ℕ → ℕ
 reduced t = cond (nat_lt t 1024) t (bit_xor t generator)
 

@@ -56,11 +56,10 @@ pub fn crc_of(payload: &[u8]) -> u16
     remainder_of(payload).get() ^ check_field(payload)
 }
 
-// Whether a payload's last ten bits are the CRC of the bits before them: exactly then the whole leaves no remainder.
-// A payload of 5 to 12 octets that is right is no longer so once one to three of its bits have changed, or an odd number of them, or
-// any within ten neighbouring bits.
+// Whether the last ten bits are the CRC of the bits before them. Of 5 to 12 octets with a right check, none stays right
+// when one to three bits change, an odd number of them, or any within ten neighbouring bits.
 pub fn is_right(payload: &[u8]) -> bool
-    ensures answer { result ≡ right payload.now }
+    ensures value { result ≡ right payload.now }
     ensures changes { ChangesAreFound }
 {
     remainder_of(payload).get() == 0

@@ -7,8 +7,7 @@ use crate::table::TABLE;
 use crate::ten_bits;
 use std::marker::Model;
 
-// What the bits so far leave. In contracts it is that number. (A type of its own, as each bounded number is: they hold numbers of
-// different types.)
+// What the bits so far leave. In contracts it is that number.
 #[derive(Clone, Copy)]
 pub struct Remainder {
     value: u16,

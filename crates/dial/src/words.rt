@@ -1,12 +1,10 @@
 // Messages, packets and answers as text.
-ghost use Rattle.std.specs.Prelude.{◌≡◌, Some, IfSome, is_some, nat_le};
-ghost use Rattle.kinds.specs.Keys.{key_code};
-
 use crate::script::{Message, Tone};
 use examples::hex::Hex;
 use kinds::cas::{Cas, CasBits};
 use kinds::digit::{Digit, TONE_OFF};
 use kinds::digits::Digits;
+use kinds::keys::key_of;
 use placing::receiver::{Class, MessageNews};
 use placing::stream::Told;
 use refusal::Refusal;
@@ -52,32 +50,6 @@ impl fmt::Display for SaidBits {
     fn fmt<W: fmt::Write>(&self, f: &mut fmt::Formatter<W>) -> fmt::Result {
         let hook = if self.0.a { "off-hook" } else { "on-hook" };
         write!(f, "bits {:04b} ({hook})", self.0.octet())
-    }
-}
-
-// The key of a DTMF code.
-fn key_of(code: u8) -> Option<char>
-    ensures key { IfSome result (λ key. key_code key ≡ Some code) }
-    ensures known { is_some result ≡ nat_le code 15 }
-{
-    match code {
-        0 => Some('0'),
-        1 => Some('1'),
-        2 => Some('2'),
-        3 => Some('3'),
-        4 => Some('4'),
-        5 => Some('5'),
-        6 => Some('6'),
-        7 => Some('7'),
-        8 => Some('8'),
-        9 => Some('9'),
-        10 => Some('*'),
-        11 => Some('#'),
-        12 => Some('A'),
-        13 => Some('B'),
-        14 => Some('C'),
-        15 => Some('D'),
-        _ => None,
     }
 }
 

@@ -1,5 +1,5 @@
 -- The laws of dialled digits. Assumes nothing.
-use Rattle.std.specs.Prelude.{◌≡◌, ℕ, ◌+◌, ◌*◌, ◌/◌, ◌%◌, ◌<◌, ◌≤◌, Bool, true, false, ◌&&◌, ltb, ◌↔◌, List, [], ◌∷◌, length, ℤ, Some, None, Ok, Err, Option, nat_le, nat_lt, slice_index, refl}
+use Rattle.std.specs.Prelude.{◌≡◌, ℕ, ◌+◌, ◌*◌, ◌/◌, ◌%◌, ◌<◌, ◌≤◌, Bool, true, false, ◌&&◌, ltb, ◌↔◌, List, [], ◌∷◌, length, Some, Ok, Err, Option, nat_le, nat_lt, slice_index, refl}
 use Rattle.std.proofs.Common.{ap, sym, subst, eqb, ◌∙◌, arith}
 use mathlib.Core.HLevel.{is_prop→PathP}
 use denote.Struct.Props.{props}
@@ -10,13 +10,10 @@ use Rattle.std.proofs.lemmas.Bool.{both_ways, ltb-true, le-leb}
 use Rattle.std.proofs.lemmas.Grind.{elements}
 use Rattle.std.specs.Option.{ok_or, option_and_then}
 use Rattle.refusal.specs.Questions.{asked, one_of}
-use Rattle.refusal.specs.declared.KindFault.{KindFault}
-use Rattle.refusal.specs.declared.Refusal.TheVariants.{Kind}
-use Rattle.refusal.specs.declared.KindFault.TheVariants.{DigitCode, Body}
-use Rattle.type3.specs.Kinds.{Lawful, or_cause}
+use Rattle.type3.specs.Kinds.{Lawful}
 use Rattle.kinds.specs.Systems.{number_of, system_of}
 use Rattle.kinds.specs.Codes.{is_code}
-use Rattle.kinds.specs.Digits.{digits, digit_by, digit_in, digit, level_of, make, make_by, read_octets, same_digit}
+use Rattle.kinds.specs.Digits.{digits, digit_by, digit_in, digit, read_octets, same_digit}
 use Rattle.kinds.specs.contracts.system.System.{the_type}
 use Rattle.kinds.specs.declared.system.System.{System}
 use Rattle.kinds.specs.declared.digit.Digit.{Digit}
@@ -26,11 +23,11 @@ use Rattle.kinds.specs.declared.digit.Digit.{Digit}
 number_back : (s : System) → system_of (number_of s) ≡ Some s
 number_back s = grind arith
 
-number_low : (s : System) → number_of s ≤ 3
+pub number_low : (s : System) → number_of s ≤ 3
 number_low s = grind arith
 
-pub system_low : (n : ℕ) (s : System) → system_of n ≡ Some s → number_of s ≡ n
-system_low n s e = grind (arith, nat_tests)
+pub system_back : (n : ℕ) (s : System) → system_of n ≡ Some s → number_of s ≡ n
+system_back n s e = grind (arith, nat_tests)
 
 same_system : (s t : System) → number_of s ≡ number_of t → s ≡ t
 same_system s t e = grind arith
@@ -47,7 +44,8 @@ same_parts d e p q r = λ i. record {
   known = is_prop→PathP (λ j. is_code (number_of (q j)) (r j) ≡ true) (λ j. hlevel props) d.known e.known i;
 }
 
-by_is : (d : Digit) (x y : Bool) (p : ltb d.level 32 ≡ x) (q : is_code (number_of d.system) d.code ≡ y) → digit_by d.level d.system d.code x y p q ≡ Some d
+by_is : (d : Digit) (x y : Bool) (p : ltb d.level 32 ≡ x) (q : is_code (number_of d.system) d.code ≡ y)
+    → digit_by d.level d.system d.code x y p q ≡ Some d
 by_is d true true p q = ap Some (same_parts _ d refl refl refl)
 by_is d true false p q = absurd (both_ways _ q d.known)
 by_is d false y p q = absurd (both_ways _ p d.low)
@@ -56,14 +54,16 @@ by_is d false y p q = absurd (both_ways _ p d.low)
 pub digit_is : (d : Digit) → digit_in d.level d.system d.code ≡ Some d
 digit_is d = by_is d _ _ refl refl
 
-by_parts : (l : ℕ) (t : System) (c : ℕ) (x y : Bool) (p : ltb l 32 ≡ x) (q : is_code (number_of t) c ≡ y) (d : Digit) → digit_by l t c x y p q ≡ Some d → (d.level ≡ l) × (d.system ≡ t) × (d.code ≡ c)
+by_parts : (l : ℕ) (t : System) (c : ℕ) (x y : Bool) (p : ltb l 32 ≡ x) (q : is_code (number_of t) c ≡ y) (d : Digit)
+    → digit_by l t c x y p q ≡ Some d → (d.level ≡ l) × (d.system ≡ t) × (d.code ≡ c)
 by_parts l t c x y p q d e = grind arith
 
-parts_in : (l : ℕ) (o : Option System) (c : ℕ) (d : Digit) → option_and_then (λ s. digit_in l s c) o ≡ Some d → (d.level ≡ l) × (o ≡ Some d.system) × (d.code ≡ c)
+parts_in : (l : ℕ) (o : Option System) (c : ℕ) (d : Digit) → option_and_then (λ s. digit_in l s c) o ≡ Some d
+    → (d.level ≡ l) × (o ≡ Some d.system) × (d.code ≡ c)
 parts_in l o c d e = let parts = λ (s : System). by_parts l s c _ _ refl refl d in grind arith
 
 parts_are : (l t c : ℕ) (d : Digit) → digit l t c ≡ Some d → (d.level ≡ l) × (number_of d.system ≡ t) × (d.code ≡ c)
-parts_are l t c d e = let p = parts_in l (system_of t) c d e in let low = system_low t d.system in grind arith
+parts_are l t c d e = let p = parts_in l (system_of t) c d e in let n = system_back t d.system in grind arith
 
 code_facts : (t c : ℕ) → is_code t c ≡ true → (t ≤ 3) × (c < 32)
 code_facts t c e = grind (arith, nat_tests)
@@ -78,7 +78,8 @@ back d =
     let c : (number_of d.system * 32 + d.code) % 32 ≡ d.code = omega arith in
     rw (t, c, number_back d.system, digit_is d, d.low, le-leb (number_of d.system) 3 k.0)
 
-read_by : (a b : ℕ) (o : Option Digit) (d : Digit) → asked {X = ℕ} ((nat_lt a 32, 1) ∷ (nat_le b 3, 2) ∷ []) (λ c. Err c) (ok_or o 3) ≡ Ok d → o ≡ Some d
+read_by : (a b : ℕ) (o : Option Digit) (d : Digit)
+    → asked {X = ℕ} ((nat_lt a 32, 1) ∷ (nat_le b 3, 2) ∷ []) (λ c. Err c) (ok_or o 3) ≡ Ok d → o ≡ Some d
 read_by a b o d e = grind (arith, nat_tests)
 
 forth : (a b : ℕ) (d : Digit) → read_octets a b ≡ Ok d → (d.level ≡ a) × (number_of d.system * 32 + d.code ≡ b)
@@ -89,7 +90,8 @@ forth a b d e =
 two : (o : List ℕ) → length o ≡ 2 → o ≡ slice_index o 0 ∷ slice_index o 1 ∷ []
 two o e = grind (arith, elements)
 
-body_is : (o : List ℕ) (d : Digit) → length o ≡ 2 → read_octets (slice_index o 0) (slice_index o 1) ≡ Ok d → d.level ∷ (number_of d.system * 32 + d.code) ∷ [] ≡ o
+body_is : (o : List ℕ) (d : Digit) → length o ≡ 2 → read_octets (slice_index o 0) (slice_index o 1) ≡ Ok d
+    → d.level ∷ (number_of d.system * 32 + d.code) ∷ [] ≡ o
 body_is o d n e = let f = forth (slice_index o 0) (slice_index o 1) d e in let t = two o n in cc
 
 pub cause : (a b c : ℕ) → read_octets a b ≡ Err c → one_of (1 ∷ 2 ∷ 3 ∷ []) c ≡ true
@@ -116,30 +118,6 @@ digits_compare d e =
     let other = tag_is e.system in
     let is : equal d e ≡ same_digit d e = grind (arith, nat_tests) in
     (λ h. alike d e (sym is ∙ h), λ h. is ∙ subst (λ x. same_digit d x ≡ true) h (itself d))
-
--- ---- what is answered once a type's number was tried
-
-type_was : (t : ℕ) (s : System) (x : KindFault) → Ok s ≡ ok_or (system_of t) x → system_of t ≡ Some s
-type_was t s x e = grind arith
-
-pub made_is : (t c : ℕ) (l : ℤ) (s : System) (x : KindFault) → Ok s ≡ ok_or (system_of t) x → ok_or (digit_in (level_of l) s c) (Kind DigitCode) ≡ make t c l
-made_is t c l s x is =
-    let e = type_was t s x is in
-    let n = number_low s in
-    let k = system_low t s e in
-    grind (arith, nat_tests)
-
-pub read_is : (a b : ℕ) (s : System) (x : KindFault) → nat_lt a 32 ≡ true → Ok s ≡ ok_or (system_of (b / 32)) x → ok_or (digit_in a s (b % 32)) (Kind (Body 3)) ≡ or_cause (read_octets a b)
-read_is a b s x low is =
-    let e = type_was (b / 32) s x is in
-    let n = number_low s in
-    let k = system_low (b / 32) s e in
-    grind (arith, nat_tests)
-
--- the same of the code of a key
-pub key_made : (o : Option ℕ) (c : ℕ) (l : ℤ) (x : KindFault) → ok_or o x ≡ Ok c → make 0 c l ≡ make_by o l
-key_made (Some k) c l x e = let same : k ≡ c = cc in rw same
-key_made None c l x e = cc
 
 pub digits_lawful : Lawful digits
 digits_lawful = record {

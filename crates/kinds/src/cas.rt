@@ -17,7 +17,7 @@ pub struct CasBits {
 }
 
 impl CasBits {
-    // A × 8 + B × 4 + C × 2 + D. (It has a name, and is no `From`, since it is one reading of four bits.)
+    // A × 8 + B × 4 + C × 2 + D. (A named method, and no `From`: four bits can be packed in other orders.)
     pub fn octet(self) -> u8
         ensures { result ≡ octet self }
     {
@@ -26,10 +26,9 @@ impl CasBits {
 }
 
 // Why an octet has no signalling bits: one of its upper four is set.
-#[derive(Clone, Copy, Debug)]
+#[derive(Clone, Copy, PartialEq, Eq, Debug)]
 pub struct NoBits;
 
-// (By hand, as each conversion here is: a derived one has no contract.)
 impl From<NoBits> for Refusal {
     ghost from_gives = { λ _ refusal. refusal ≡ OfKind (Body 1) };
 
@@ -41,6 +40,8 @@ impl From<NoBits> for Refusal {
 const MESSAGE_TYPE: u8 = 3;
 
 const BODY_LEN: usize = 1;
+
+const GAP: u32 = 5_000;
 
 pub struct Cas;
 
@@ -66,7 +67,7 @@ impl Kind for Cas {
     }
 
     fn gap(_message: CasBits) -> Option<u32> {
-        Some(5000)
+        Some(GAP)
     }
 
     fn read_body(octets: &[u8]) -> Result<CasBits, Refusal> {

@@ -14,6 +14,8 @@ const MESSAGE_TYPE: u8 = 2;
 
 const BODY_LEN: usize = 2;
 
+const GAP: u32 = 500;
+
 // Why two octets are no digit.
 #[derive(Clone, Copy, Debug, PartialEq, Eq)]
 pub enum NoDigit {
@@ -25,7 +27,6 @@ pub enum NoDigit {
     Code,
 }
 
-// (By hand, since a derived conversion has no contract.)
 impl From<NoDigit> for Refusal {
     ghost from_gives = { λ why refusal. refusal ≡ OfKind (Body (cause_number why)) };
 
@@ -69,11 +70,11 @@ impl Kind for Digits {
         if message.code() == TONE_OFF {
             None
         } else {
-            Some(500)
+            Some(GAP)
         }
     }
 
-    #[tactic(auto, using(crate::specs::DigitLaws::read_is))]
+    #[tactic(auto, using(crate::proofs::Making::read_is))]
     fn read_body(octets: &[u8]) -> Result<Digit, Refusal> {
         let level = octets[0];
         if level >= 32 {

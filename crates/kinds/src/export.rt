@@ -35,8 +35,8 @@ fn type_of(read: Either<Payload<Digit>, Payload<CasBits>>) -> u32
     ensures { result ≡ type_of read }
 {
     match read {
-        Either::First(_) => u32::from(<Digits as Kind>::message_type()),
-        Either::Second(_) => u32::from(<Cas as Kind>::message_type()),
+        Either::First(_) => u32::from(Digits::message_type()),
+        Either::Second(_) => u32::from(Cas::message_type()),
     }
 }
 

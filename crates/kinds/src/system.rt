@@ -2,8 +2,10 @@
 ghost use Rattle.std.specs.Prelude.{◌≡◌};
 ghost use Rattle.std.specs.Option.{ok_or};
 ghost use Rattle.refusal.specs.declared.KindFault.TheVariants.{DigitType};
+ghost use Rattle.kinds.specs.Codes.{is_code};
 ghost use Rattle.kinds.specs.Systems.{number_of, system_of};
 
+use crate::digit::TONE_OFF;
 use refusal::KindFault;
 
 #[derive(Clone, Copy, Debug, PartialEq, Eq)]
@@ -14,7 +16,20 @@ pub enum System {
     MfR2Backward,
 }
 
-// Both conversions are by hand, since derived ones have no contract.
+impl System {
+    // Whether a digit of this type may have the code.
+    pub(crate) fn has(self, code: u8) -> bool
+        ensures { result ≡ is_code (number_of self) code }
+    {
+        match self {
+            System::Dtmf if matches!(code, 0..=15) => true,
+            System::MfR1 if matches!(code, 0..=14) => true,
+            System::MfR2Forward | System::MfR2Backward if matches!(code, 1..=15) => true,
+            _ => code == TONE_OFF,
+        }
+    }
+}
+
 impl From<System> for u8 {
     ghost from_gives = { λ system number. number ≡ number_of system };
 

@@ -8,7 +8,7 @@ use Rattle.type3.specs.declared.payload.Payload.{Payload}
 use Rattle.type3.specs.declared.payload.Either.{Either}
 use Rattle.type3.specs.declared.payload.Either.TheVariants as either
 use Rattle.type3.specs.Exactly.{Fits}
-use Rattle.type3.proofs.Values.{first_written, second_written}
+use Rattle.type3.proofs.Exactly.{first_written, second_written}
 use Rattle.sending.specs.Sending.{Stream}
 use Rattle.placing.specs.declared.stream.Placed.{Placed}
 use Rattle.placing.specs.declared.stream.Moved.{Moved}

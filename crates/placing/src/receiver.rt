@@ -89,7 +89,7 @@ impl<K: Kind> Receiver<K> {
     fn class_of(&self, payload: Payload<K::Message>) -> Class
         ensures { result ≡ class_of K.Kind.model self.now.force payload }
     {
-        if payload.redundancy.get() < 3 {
+        if !payload.redundancy.is_refresh() {
             Class::Event
         } else if self.force == Some(payload.message) {
             Class::Confirmed

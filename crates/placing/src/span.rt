@@ -4,6 +4,7 @@ ghost use Rattle.profile.specs.Labels.{interval_of, span_of};
 
 use profile::profile::Profile;
 use std::marker::Model;
+use type3::bounded::STAMP_MODULUS;
 
 // Some milliseconds, at least one. In contracts it is that number. (A type of its own, as each bounded number is: they hold
 // numbers of different types.)
@@ -29,7 +30,9 @@ impl Span {
     pub fn of_stamps() -> Span
         ensures { result ≡ 16384 }
     {
-        Span { ms: 16384 }
+        Span {
+            ms: u32::from(STAMP_MODULUS),
+        }
     }
 
     // That of the audio stream under a profile.

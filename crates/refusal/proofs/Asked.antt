@@ -23,10 +23,6 @@ module _ {X Y : Type 0} (refuse : X → Y) (does : Y) where
       by true e (passed y is) = passed (e, y) (ap (λ c. cond c (asked qs refuse does) (refuse q.1)) e ∙ is)
       by false e w = refused q.1 (ap (λ c. cond c (asked qs refuse does) (refuse q.1)) e)
 
-  pub asked_yes : (qs : List (Bool × X)) → Yes qs → asked qs refuse does ≡ does
-  asked_yes [] y = refl
-  asked_yes (q ∷ qs) y = ap (λ c. cond c (asked qs refuse does) (refuse q.1)) y.0 ∙ asked_yes qs y.1
-
   -- an answer that no refusal gives was given after all were answered yes
   pub accepted : (qs : List (Bool × X)) (r : Y) → ((x : X) → refuse x ≡ r → ⊥) → asked qs refuse does ≡ r → Yes qs × (does ≡ r)
   accepted qs r never e = by (asked_way qs)
@@ -35,29 +31,21 @@ module _ {X Y : Type 0} (refuse : X → Y) (does : Y) where
       by (refused x is) = absurd (never x (sym is ∙ e))
       by (passed y is) = (y, sym is ∙ e)
 
--- what is refused is refused whatever the call does
-module _ {F T U : Type 0} (f : F) where
-  one : (b : Bool) (x : F) (r : Result T F) (s : Result U F) → (r ≡ Err f → s ≡ Err f) → cond b r (Err x) ≡ Err f → cond b s (Err x) ≡ Err f
-  one true x r s rest e = rest e
-  one false x r s rest e = let i : x ≡ f = cc in ap (λ y. Err y) i
-
-  pub refused_alike : (qs : List (Bool × F)) (t : T) (does : Result U F) → asked {Y = Result T F} qs (λ x. Err x) (Ok t) ≡ Err f → asked {Y = Result U F} qs (λ x. Err x) does ≡ Err f
-  refused_alike [] t does e = cc
-  refused_alike (q ∷ qs) t does e = one q.0 q.1 (asked qs (λ x. Err x) (Ok t)) (asked qs (λ x. Err x) does) (refused_alike qs t does) e
-
 -- what is so of the refusals of all questions, and of the call's own, is so of the refusal that is given
 module _ {F T : Type 0} (So : F → Type 0) (f : F) where
   given : (b : Bool) (x : F) (r : Result T F) → So x → (r ≡ Err f → So f) → cond b r (Err x) ≡ Err f → So f
   given true x r so rest e = rest e
   given false x r so rest e = let i : x ≡ f = cc in subst So i so
 
-  pub refusal_so : (qs : List (Bool × F)) (does : Result T F) → AllByRecursion (λ q. So q.1) qs → (does ≡ Err f → So f) → asked {Y = Result T F} qs (λ x. Err x) does ≡ Err f → So f
+  pub refusal_so : (qs : List (Bool × F)) (does : Result T F) → AllByRecursion (λ q. So q.1) qs → (does ≡ Err f → So f)
+      → asked {Y = Result T F} qs (λ x. Err x) does ≡ Err f → So f
   refusal_so [] does so own e = own e
   refusal_so (q ∷ qs) does so own e = given q.0 q.1 (asked qs (λ x. Err x) does) so.0 (refusal_so qs does so.1 own) e
 
 -- a test by its answer
 module _ {F : Type 0} where
-  map_one : {G : Type 0} (make : F → G) (b : Bool) (x : F) (o : Option F) (p : Option G) → p ≡ option_map make o → cond b p (Some (make x)) ≡ option_map make (cond b o (Some x))
+  map_one : {G : Type 0} (make : F → G) (b : Bool) (x : F) (o : Option F) (p : Option G) → p ≡ option_map make o
+      → cond b p (Some (make x)) ≡ option_map make (cond b o (Some x))
   map_one make true x o p e = e
   map_one make false x o p e = refl
 

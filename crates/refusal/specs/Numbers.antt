@@ -54,7 +54,7 @@ layer_of (Type3 fault) = layer.Type3
 layer_of (Kind fault) = layer.Kind
 layer_of (Placing fault) = layer.Placing
 
--- the place of the entry that a profile was refused for
+-- the place of the entry that a profile was refused for, and 0 where the number of entries is wrong
 abbrev pub place_of : Refusal → Option ℕ
 place_of (Profile fault place) = Some place
 place_of (Sending fault) = None

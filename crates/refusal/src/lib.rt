@@ -104,7 +104,7 @@ pub enum Layer {
     Placing,
 }
 
-// A refusal. Of a profile it also has the place of the entry that is wrong, from 0, so that no fault alone makes it.
+// A refusal. Of a profile it also has the place of the wrong entry, from 0; so a `ProfileFault` has no `From`.
 #[derive(Clone, Copy, Debug, PartialEq, Eq)]
 pub enum Refusal {
     Profile(ProfileFault, usize),
@@ -166,7 +166,7 @@ impl Refusal {
         }
     }
 
-    // The place of the entry that a profile was refused for.
+    // The place of the entry that a profile was refused for, and 0 where the number of entries is wrong.
     pub fn place(self) -> Option<usize>
         ensures { result ≡ place_of self }
     {

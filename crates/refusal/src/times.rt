@@ -5,7 +5,7 @@ ghost use Rattle.refusal.specs.Questions.{is_time};
 use std::marker::Model;
 
 // The last time, 2^40 - 1.
-pub const LAST_TIME: u64 = 1_099_511_627_775;
+const LAST_TIME: u64 = 1_099_511_627_775;
 
 // Whether a number of milliseconds is a time.
 pub fn is_time(ms: u64) -> bool
@@ -47,7 +47,7 @@ impl Time {
         self.ms
     }
 
-    // How long it is after an earlier time; nothing where that is not earlier.
+    // How long it is after an earlier time; 0 where that one is later.
     pub fn since(self, earlier: u64) -> Time
         ensures { result ≡ self - earlier }
     {

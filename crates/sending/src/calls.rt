@@ -11,6 +11,7 @@ use refusal::times::Time;
 use refusal::{Refusal, SendingFault};
 use type3::bounded::Redundancy;
 use type3::kind::Kind;
+use type3::payload::payload_len;
 use type3::writing::write_payload;
 
 impl<K: Kind> Sender<K> {
@@ -95,7 +96,7 @@ impl<K: Kind> Sender<K> {
         if time.get() < self.clock {
             return Err(SendingFault::BehindClock.into());
         }
-        if room < K::body_len() + 4 {
+        if room < payload_len::<K>() {
             return Err(SendingFault::BufferTooShort.into());
         }
         Ok(())
@@ -133,7 +134,7 @@ impl<K: Kind> Sender<K> {
         if redundancy >= 2 {
             self.refresh = Self::next_refresh(time, packet.message);
         }
-        if redundancy == 3 {
+        if packet.redundancy.is_refresh() {
             self.refreshed = Some(time);
         }
     }

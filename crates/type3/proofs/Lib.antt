@@ -2,5 +2,5 @@ pub mod Buffers
 pub mod Parts
 pub mod Writes
 pub mod RoundTrip
-pub mod Values
+pub mod Exactly
 pub mod Spoiled

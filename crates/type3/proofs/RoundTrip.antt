@@ -2,7 +2,7 @@
 use Rattle.std.proofs.Common.{◌≡◌, ℕ, ◌+◌, ◌-◌, ◌*◌, ◌/◌, ◌%◌, ◌<◌, ◌≤◌, Bool, true, List, ◌∷◌, length, get_or, take, Ok, sym, refl, ap, ◌∙◌, arith}
 use Rattle.std.proofs.lemmas.Bool.{eqb-true, eq-eqb}
 use Rattle.std.proofs.lemmas.Bool.Decides.{nat_tests}
-use Rattle.std.proofs.lemmas.List.{length-append, length-take, length-drop}
+use Rattle.std.proofs.lemmas.List.{length-take, length-drop}
 use Rattle.refusal.proofs.Asked.{Yes}
 use Rattle.crc10.specs.Check.{octet_bits, check_field, crc, crc_of, right}
 use Rattle.crc10.proofs.Ends.{field_end, checked_end, high_six, crc_low}
@@ -10,9 +10,9 @@ use Rattle.type3.specs.Kinds.{Meaning, Lawful}
 use Rattle.type3.specs.Octets.{framed, written, redundancy_in, stamp_in, body_in, type_in, questions, read_named, read}
 use Rattle.type3.specs.declared.payload.Payload.{Payload}
 use Rattle.type3.specs.Exactly.{Fits, Holds}
-use Rattle.type3.proofs.Parts.{parts, parts_body, parts_top, is_parts}
+use Rattle.type3.proofs.Parts.{parts, parts_body, parts_top, length_framed, is_parts}
 
--- the upper six bits of the octet before the last do not tell the check
+-- the upper six bits of the octet before the last do not depend on the check
 same_six : (t c d : ℕ) → t ≤ 63 → c < 4 → d < 4 → take 6 (octet_bits (t * 4 + c)) ≡ take 6 (octet_bits (t * 4 + d))
 same_six t c d ht hc hd =
     let e : (n : ℕ) → n < 4 → t * 4 / 4 * 4 + n ≡ t * 4 + n = λ n h. omega arith in
@@ -23,7 +23,7 @@ module _ {M : Type 0} (k : Meaning M) (law : Lawful k) (x : Payload M) where
   abbrev front : List ℕ
   front = (x.redundancy * 64 + x.stamp / 256) ∷ (x.stamp % 256) ∷ k.body x.message
 
-  -- the CRC does not tell the check that stands after it
+  -- the CRC does not depend on the check field after it
   crc_framed : (c : ℕ) → c < 1024 → crc_of (framed k x c) ≡ crc_of (framed k x 0)
   crc_framed c h =
       let t = law.type_fits in
@@ -37,12 +37,14 @@ module _ {M : Type 0} (k : Meaning M) (law : Lawful k) (x : Payload M) where
       ∙ (let e : (k.message_type * 4 + c / 256) % 4 * 256 + c % 256 ≡ c = omega arith in e)
 
   pub length_written : length (written k x) ≡ k.len + 4
-  length_written = let long = law.body_len x.message in simp length-append (omega arith)
+  length_written = length_framed k law x (crc_of (framed k x 0))
 
   pub type_written : type_in (written k x) ≡ k.message_type
   type_written =
       let c = crc_low (framed k x 0) in
-      ap (λ n. n / 4) (parts_top (x.redundancy * 64 + x.stamp / 256) (x.stamp % 256) (k.body x.message) (k.message_type * 4 + crc_of (framed k x 0) / 256) (crc_of (framed k x 0) % 256))
+      let top : ℕ = k.message_type * 4 + crc_of (framed k x 0) / 256 in
+      ap (λ n. n / 4)
+      (parts_top (x.redundancy * 64 + x.stamp / 256) (x.stamp % 256) (k.body x.message) top (crc_of (framed k x 0) % 256))
       ∙ (let e : (k.message_type * 4 + crc_of (framed k x 0) / 256) / 4 ≡ k.message_type = omega arith in e)
 
   pub right_written : right (written k x) ≡ true
@@ -81,7 +83,8 @@ module _ {M : Type 0} (k : Meaning M) (law : Lawful k) (x : Payload M) where
       grind (arith, nat_tests)
 
   -- and a payload says only what was written to it
-  pub named_back : (o : List ℕ) → ((i : ℕ) → get_or o i 0 < 256) → right o ≡ true → type_in o ≡ k.message_type → read_named k o ≡ Ok x → Holds k o x
+  pub named_back : (o : List ℕ) → ((i : ℕ) → get_or o i 0 < 256) → right o ≡ true → type_in o ≡ k.message_type
+      → read_named k o ≡ Ok x → Holds k o x
   named_back o fits checks type e =
       let sized : length o ≡ k.len + 4 = grind (arith, nat_tests) in
       let message : k.read (body_in o) ≡ Ok x.message = grind (arith, nat_tests) in
@@ -107,5 +110,6 @@ module _ {M : Type 0} (k : Meaning M) (law : Lawful k) (x : Payload M) where
       let ew : w ≡ (z % 4 * 256 + w) % 256 = omega arith in
       let framed_is : o ≡ framed k x c = cc in
       let check : c ≡ crc_of (framed k x 0) =
-      sym (field_framed c (omega arith)) ∙ sym (ap check_field framed_is) ∙ eqb-true _ _ checks ∙ ap crc_of framed_is ∙ crc_framed c (omega arith) in
+      sym (field_framed c (omega arith)) ∙ sym (ap check_field framed_is) ∙ eqb-true _ _ checks ∙ ap crc_of framed_is
+      ∙ crc_framed c (omega arith) in
       ((omega arith, omega arith), framed_is ∙ ap (framed k x) check)

@@ -1,5 +1,5 @@
 -- A written payload that was changed on the way is refused for its check. Assumes nothing.
-use Rattle.std.proofs.Common.{◌≡◌, ℕ, Bool, true, false, List, length, Err, Result, ◌∙◌, arith}
+use Rattle.std.proofs.Common.{◌≡◌, ℕ, Bool, true, false, cond, eqb, List, length, Err, Result, ◌∙◌, arith}
 use Rattle.std.proofs.lemmas.Bool.Decides.{nat_tests}
 use Rattle.refusal.specs.Questions.{asked}
 use Rattle.refusal.specs.declared.Refusal.{Refusal}
@@ -9,9 +9,10 @@ use Rattle.crc10.specs.Check.{right}
 use Rattle.crc10.specs.Changes.{changed, found}
 use Rattle.crc10.proofs.Detect.{changes_are_found}
 use Rattle.type3.specs.Kinds.{Meaning, Lawful}
-use Rattle.type3.specs.Octets.{written, questions, read_named, read}
+use Rattle.type3.specs.Octets.{written, type_in, questions, read_named, read, as_first, as_second, read_either}
 use Rattle.type3.specs.Changed.{ChangedIsRefused}
 use Rattle.type3.specs.declared.payload.Payload.{Payload}
+use Rattle.type3.specs.declared.payload.Either.{Either}
 use Rattle.type3.proofs.RoundTrip.{length_written, right_written}
 
 module _ {M : Type 0} (k : Meaning M) (law : Lawful k) where
@@ -26,4 +27,12 @@ module _ {M : Type 0} (k : Meaning M) (law : Lawful k) where
       grind (arith, nat_tests)
 
   pub changed_is_refused : (o : List ℕ) (r : Result (Payload M) Refusal) → r ≡ read k o → ChangedIsRefused k o r
-  changed_is_refused o r e p n ch = e ∙ spoiled_asked p o n ch _ (read_named k o)
+  changed_is_refused o r e x n ch = e ∙ spoiled_asked x o n ch _ (read_named k o)
+
+  -- whichever two kinds are read
+  pub changed_either : {P Q : Type 0} (p : Meaning P) (q : Meaning Q) (o : List ℕ) (r : Result (Either (Payload P) (Payload Q)) Refusal)
+      → r ≡ read_either p q o → ChangedIsRefused k o r
+  changed_either p q o r e x n ch =
+      e
+      ∙ spoiled_asked x o n ch _
+      (cond (eqb (type_in o) p.message_type) (as_first (read_named p o)) (as_second (read_named q o)))

@@ -8,8 +8,8 @@ use Rattle.type3.specs.Kinds.{Meaning}
 use Rattle.type3.specs.Octets.{written}
 use Rattle.type3.specs.declared.payload.Payload.{Payload}
 
--- Octets that differ from some written payload of their length in one to three bits, in an odd number of bits, or only
--- within ten neighbouring bits, are refused for their check.
-abbrev pub ChangedIsRefused : {M : Type 0} → Meaning M → List ℕ → Result (Payload M) Refusal → Type 0
+-- Octets that differ from some written payload of the kind, of their length, in one to three bits, in an odd number of bits,
+-- or only within ten neighbouring bits, are refused for their check.
+abbrev pub ChangedIsRefused : {M X : Type 0} → Meaning M → List ℕ → Result X Refusal → Type 0
 ChangedIsRefused {M} k o r =
     (p : Payload M) → length o ≡ length (written k p) → found (changed (written k p) o) ≡ true → r ≡ Err (Type3 WrongCrc)

@@ -70,7 +70,7 @@ read_named k o =
 abbrev pub read : {M : Type 0} → Meaning M → List ℕ → Result (Payload M) Refusal
 read k o = asked (questions o (type_in o == k.message_type)) (λ f. Err f) (read_named k o)
 
--- Where there are two kinds. Of two with one message type the first is chosen.
+-- what is read of the first kind, or of the second, as one of the two
 abbrev pub as_first : {X Y : Type 0} → Result X Refusal → Result (Either X Y) Refusal
 as_first (Ok x) = Ok (First x)
 as_first (Err f) = Err f
@@ -79,6 +79,7 @@ abbrev pub as_second : {X Y : Type 0} → Result Y Refusal → Result (Either X 
 as_second (Ok y) = Ok (Second y)
 as_second (Err f) = Err f
 
+-- Where there are two kinds. Of two with one message type the first is chosen.
 abbrev pub read_either : {P Q : Type 0} → Meaning P → Meaning Q → List ℕ → Result (Either (Payload P) (Payload Q)) Refusal
 read_either p q o =
     asked (questions o (type_in o == p.message_type || type_in o == q.message_type))

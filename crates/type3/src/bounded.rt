@@ -1,7 +1,6 @@
 // The two numbers at the head of a type 3 payload, each with its bound in its type. In contracts each is that number.
-// They are two types, and not one with a const parameter, since they hold numbers of different types and have methods of their
-// own. They are made and read by `new` and `get`, as std's `NonZeroU8` is.
-ghost use Rattle.std.specs.Prelude.{◌≡◌, ◌+◌, ◌*◌, ◌/◌, ◌%◌, ◌<◌, min, ltb, if◌then◌else◌, Some, None};
+// They are made and read by `new` and `get`, as std's `NonZeroU8` is.
+ghost use Rattle.std.specs.Prelude.{◌≡◌, ◌+◌, ◌*◌, ◌/◌, ◌%◌, ◌<◌, ◌==◌, min, nat_lt, if◌then◌else◌, Some, None};
 
 use std::marker::Model;
 
@@ -25,7 +24,7 @@ impl Model for Redundancy {
 
 impl Redundancy {
     pub fn new(value: u8) -> Option<Redundancy>
-        ensures { result ≡ (if ltb value 4 then Some value else None) }
+        ensures { result ≡ (if nat_lt value 4 then Some value else None) }
     {
         if value < 4 {
             Some(Redundancy { value })
@@ -45,13 +44,16 @@ impl Redundancy {
     pub fn next(self) -> Redundancy
         ensures { result ≡ min (self + 1) 3 }
     {
-        if self.value < 3 {
-            Redundancy {
-                value: self.value + 1,
-            }
-        } else {
-            self
+        Redundancy {
+            value: (self.value + 1).min(3),
         }
+    }
+
+    // Whether it is that of a refresh.
+    pub fn is_refresh(self) -> bool
+        ensures { result ≡ (self == 3) }
+    {
+        self.get() == 3
     }
 
     // The redundancy in the first octet of a payload: its upper two bits.
@@ -65,10 +67,12 @@ impl Redundancy {
         ensures value { result ≡ self }
         ensures below { result < 4 }
     {
-        let Redundancy { value } = self;
-        value
+        self.value
     }
 }
+
+// Stamps repeat after so many milliseconds.
+pub const STAMP_MODULUS: u16 = 16_384;
 
 // A time in milliseconds, modulo 16,384.
 #[derive(Clone, Copy, Debug, PartialEq, Eq)]
@@ -90,9 +94,13 @@ impl Model for Stamp {
 
 impl Stamp {
     pub fn new(ms: u16) -> Option<Stamp>
-        ensures { result ≡ (if ltb ms 16384 then Some ms else None) }
+        ensures { result ≡ (if nat_lt ms 16384 then Some ms else None) }
     {
-        if ms < 16384 { Some(Stamp { ms }) } else { None }
+        if ms < STAMP_MODULUS {
+            Some(Stamp { ms })
+        } else {
+            None
+        }
     }
 
     // The stamp of a packet that is made for this time.
@@ -100,7 +108,7 @@ impl Stamp {
         ensures { result ≡ time % 16384 }
     {
         Stamp {
-            ms: (time % 16384) as u16,
+            ms: (time % u64::from(STAMP_MODULUS)) as u16,
         }
     }
 

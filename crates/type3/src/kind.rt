@@ -7,7 +7,7 @@ use refusal::Refusal;
 pub trait Kind {
     type Message: Copy + PartialEq;
 
-    // What the kind means, and the laws that its meaning keeps. All that generic code knows of a kind is here.
+    // What the kind means. With the laws below, it is all that generic code knows of a kind.
     ghost model: { Meaning Self.Message };
 
     // The message type, 0 to 63.
@@ -23,7 +23,7 @@ pub trait Kind {
         requires { length out.old ≡ model.len }
         ensures { out.new ≡ model.body message };
 
-    // How long after a packet a refresh is due, 1 to 60,000 ms, if the message is refreshed at all.
+    // How long after the last copy, and after each refresh, the next refresh is due: 1 to 60,000 ms, or never.
     fn gap(message: Self::Message) -> Option<u32>
         ensures { result ≡ model.gap message };
 

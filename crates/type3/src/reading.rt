@@ -7,7 +7,7 @@ ghost use Rattle.type3.specs.Exactly.{Exactly, ExactlyEither};
 
 use crate::bounded::{Redundancy, Stamp};
 use crate::kind::Kind;
-use crate::payload::{Either, LONGEST, Payload, SHORTEST};
+use crate::payload::{Either, LONGEST, Payload, SHORTEST, payload_len};
 use crc10::is_right;
 use refusal::{Refusal, Type3Fault};
 
@@ -20,7 +20,7 @@ pub fn read_payload<K: Kind>(octets: &[u8]) -> Result<Payload<K::Message>, Refus
     read_one::<K>(octets)
 }
 
-// Apart, so that the function above has one exit: each would owe all that is said of the result.
+// A function of its own, so that `read_payload` has one exit: each exit would owe every clause.
 fn read_one<K: Kind>(octets: &[u8]) -> Result<Payload<K::Message>, Refusal>
     ensures { result ≡ read K.Kind.model octets.now }
 {
@@ -35,7 +35,7 @@ fn named_type(octets: &[u8]) -> Result<u8, Refusal>
     ensures { result ≡ asked (framing octets.now) (λ f. Err f) (Ok (type_in octets.now)) }
 {
     let n = octets.len();
-    if n < SHORTEST || n > LONGEST {
+    if !matches!(n, SHORTEST..=LONGEST) {
         return Err(Type3Fault::PayloadSize.into());
     }
     if !is_right(octets) {
@@ -49,7 +49,7 @@ fn read_named<K: Kind>(octets: &[u8]) -> Result<Payload<K::Message>, Refusal>
     ensures { result ≡ read_named K.Kind.model octets.now }
 {
     let n = octets.len();
-    if n != K::body_len() + 4 {
+    if n != payload_len::<K>() {
         return Err(Type3Fault::KindLength.into());
     }
     let message = K::read_body(&octets[2..n - 2])?;
@@ -66,11 +66,13 @@ pub fn read_either<P: Kind, Q: Kind>(
 ) -> Result<Either<Payload<P::Message>, Payload<Q::Message>>, Refusal>
     ensures value { result ≡ read_either P.Kind.model Q.Kind.model octets.now }
     ensures exact { ExactlyEither P.Kind.model Q.Kind.model octets.now result }
+    ensures first_changed { ChangedIsRefused P.Kind.model octets.now result }
+    ensures second_changed { ChangedIsRefused Q.Kind.model octets.now result }
 {
     read_two::<P, Q>(octets)
 }
 
-// Apart, as `read_one` is.
+// A function of its own, as `read_one` is.
 fn read_two<P: Kind, Q: Kind>(
     octets: &[u8],
 ) -> Result<Either<Payload<P::Message>, Payload<Q::Message>>, Refusal>

@@ -4,13 +4,13 @@ ghost use Rattle.type3.specs.Octets.{framed, write};
 ghost use Rattle.type3.specs.Exactly.{NoTwoAlike};
 
 use crate::kind::Kind;
-use crate::payload::Payload;
+use crate::payload::{Payload, payload_len};
 use crc10::crc_of;
 use refusal::{Refusal, SendingFault};
 
 // Writes the payload at the start of `out`, and answers how long it is. (The caller lends the buffer: nothing in service
 // allocates.)
-#[tactic(auto, using(crate::proofs::Values::no_two_alike))]
+#[tactic(auto, using(crate::proofs::Exactly::no_two_alike))]
 pub fn write_payload<K: Kind>(
     payload: Payload<K::Message>,
     out: &mut [u8],
@@ -19,7 +19,7 @@ pub fn write_payload<K: Kind>(
     ensures octets { out.new ≡ (write K.Kind.model payload out.old).1 }
     ensures unalike { NoTwoAlike K.Kind.model }
 {
-    let n = K::body_len() + 4;
+    let n = payload_len::<K>();
     if out.len() < n {
         return Err(SendingFault::BufferTooShort.into());
     }
@@ -29,7 +29,7 @@ pub fn write_payload<K: Kind>(
     Ok(n)
 }
 
-// Writes the payload with this check. (What it asks is asked here alone.)
+// Writes the payload with this check field. (`write_payload` alone calls it, and meets what it requires.)
 #[tactic(auto, using(crate::proofs::Writes::frame_is))]
 fn frame<K: Kind>(payload: &Payload<K::Message>, check: u16, out: &mut [u8])
     requires check { check < 1024 }

@@ -42,7 +42,7 @@ impl Digit {
 }
 
 // The level of whole dBm0: 0 and above give 0, -31 and below give 31, and otherwise -n gives n.
-pub fn level_of(dbm0: i8) -> u8
+fn level_of(dbm0: i8) -> u8
     ensures { result ≡ level_of dbm0 }
 {
     dbm0.clamp(-31, 0).unsigned_abs()

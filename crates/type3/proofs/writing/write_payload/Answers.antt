@@ -9,6 +9,6 @@ returns-clause-octets g c =
     let law = g.met.K.Kind.lawful in
     let x = c.args.payload in
     let out = c.args.out.now in
-    twice_is k law x out c.frame.new.out c.frame-2.new.out c.body_len-n.result c.crc_of-check.result
-    c.body_len-n.ensures c.frame.ensures c.crc_of-check.ensures.value c.frame-2.ensures
-    ∙ sym (ap (λ w. w.1) (room_yes k law x out (le-leb _ _ (omega (arith, c.body_len-n.ensures)))))
+    twice_is k law x out c.frame.new.out c.frame-2.new.out c.payload_len-n.result c.crc_of-check.result
+    c.payload_len-n.ensures c.frame.ensures c.crc_of-check.ensures.value c.frame-2.ensures
+    ∙ sym (ap (λ w. w.1) (room_yes k law x out (le-leb _ _ (omega (arith, c.payload_len-n.ensures)))))

@@ -25,7 +25,8 @@ module _ {M : Type 0} (k : Meaning M) (law : Lawful k) where
 
   pub no_two_alike : NoTwoAlike k
   no_two_alike p q fp fq e =
-      let i : ◌≡◌ {A = Result (Payload M) Refusal} (Ok p) (Ok q) = sym (read_written k law p fp) ∙ ap (read k) e ∙ read_written k law q fq in
+      let i : ◌≡◌ {A = Result (Payload M) Refusal} (Ok p) (Ok q) =
+      sym (read_written k law p fp) ∙ ap (read k) e ∙ read_written k law q fq in
       cc
 
 -- ---- one of two kinds
@@ -64,7 +65,8 @@ module _ {P Q : Type 0} (p : Meaning P) (q : Meaning Q) (lp : Lawful p) (lq : La
       let named : read_named q o ≡ Ok y = grind (arith, nat_tests) in
       named_back q lq y o fits checks type named
 
-  pub exactly_either : (o : List ℕ) → ((i : ℕ) → get_or o i 0 < 256) → (r : Result (Either (Payload P) (Payload Q)) Refusal) → r ≡ read_either p q o → ExactlyEither p q o r
+  pub exactly_either : (o : List ℕ) → ((i : ℕ) → get_or o i 0 < 256) → (r : Result (Either (Payload P) (Payload Q)) Refusal)
+      → r ≡ read_either p q o → ExactlyEither p q o r
   exactly_either o fits r e = record {
     first_written = λ x i. either_back o fits (First x) (sym e ∙ i);
     first_read = λ x h. e ∙ ap (read_either p q) h.1 ∙ first_written x h.0;
