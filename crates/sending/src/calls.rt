@@ -13,6 +13,11 @@ use type3::bounded::Redundancy;
 use type3::kind::Kind;
 use type3::writing::write_payload;
 
+// An event has so many copies, so many milliseconds apart.
+const COPIES: u8 = 3;
+
+const COPY_SPACING: u64 = 5;
+
 impl<K: Kind> Sender<K> {
     pub fn new() -> Sender<K>
         ensures { result ≡ new_sender }
@@ -66,8 +71,7 @@ impl<K: Kind> Sender<K> {
     }
 
     // What is due at a time: the first unsent packet whose moment has come is written to the start of `out`, and its length
-    // is answered. Called at every millisecond after an event, it sends each packet at its moment. (The caller lends the buffer:
-    // nothing in service allocates.)
+    // is answered. Called at every millisecond after an event, it sends each packet at its moment.
     #[tactic(auto, using(crate::proofs::Milliseconds::keeps_its_moments))]
     pub fn due(&mut self, time: u64, out: &mut [u8]) -> Result<Option<usize>, Refusal>
         ensures value { result ≡ counted (due K.Kind.model self.old time (length out.old)).0 }
@@ -107,8 +111,11 @@ impl<K: Kind> Sender<K> {
     {
         let event = self.latest?;
         let copies = self.next.get();
-        let (moment, made) = if copies < 3 {
-            (event.time.get() + 5 * u64::from(copies), event.time)
+        let (moment, made) = if copies < COPIES {
+            (
+                event.time.get() + COPY_SPACING * u64::from(copies),
+                event.time,
+            )
         } else {
             (self.refresh?, time)
         };
