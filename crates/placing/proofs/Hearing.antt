@@ -10,7 +10,7 @@ use Rattle.placing.specs.declared.stream.Told.{Told}
 use Rattle.placing.specs.declared.stream.Told.TheVariants.{News, Repeat, Late}
 use Rattle.placing.specs.Lists.{all, those, last, greatest}
 use Rattle.placing.specs.Placing.{told, placed_after}
-use Rattle.placing.specs.Arrivals.{Point, age, Tells, beside, is_news}
+use Rattle.placing.specs.Arrivals.{Point, age, Tells, expected_beside, is_news}
 use Rattle.placing.proofs.Nearby.{Order, order, level_with, short, long}
 use Rattle.placing.proofs.Leader.{below, all_below, newer, greatest_snoc}
 use Rattle.placing.proofs.Snoc.{passes_now, passes_not}
@@ -46,7 +46,7 @@ module _ {X : Type 0} (point : X → Point) (news : X → Bool) (span unit : ℕ
 
   -- the arrival x is answered by r, and z is what is then kept of it
   pub record Next (before : List X) (s : Option Placed) (x : Point) (r : Result (Told Moved) Refusal) : Type 0 where
-    pub as_expected : r ≡ beside (start_of before) (option_map point (greatest time before)) x
+    pub as_expected : r ≡ expected_beside (start_of before) (option_map point (greatest time before)) x
     pub exactly : is_news r ≡ all (λ b. ltb (time b) x.time) before
     pub since : (n : Moved) → r ≡ Ok (News n) → Passed (latest_news before) x n.elapsed
     pub hears : (z : X) → point z ≡ x → news z ≡ is_news r → Hears (before ++ (z ∷ [])) (placed_after s x.label x.arrival r)
@@ -74,8 +74,8 @@ module _ {X : Type 0} (point : X → Point) (news : X → Bool) (span unit : ℕ
     later : all (λ b. ltb (time b) x.time) (first ∷ xs) ≡ ltb (time y) x.time
     later = all_below time (first ∷ xs) x.time ∙ ap (λ o. below time o x.time) h.leads
 
-    expects : beside (time first) (option_map point (greatest time (first ∷ xs))) x ≡ beside (time first) (Some (point y)) x
-    expects = ap (λ o. beside (time first) (option_map point o) x) h.leads
+    expects : expected_beside (time first) (option_map point (greatest time (first ∷ xs))) x ≡ expected_beside (time first) (Some (point y)) x
+    expects = ap (λ o. expected_beside (time first) (option_map point o) x) h.leads
 
     leader : (z : X) → point z ≡ x → (b : Bool) → ltb (time y) x.time ≡ b → greatest time ((first ∷ xs) ++ (z ∷ [])) ≡ Some (cond b z y)
     leader z e b t =
@@ -108,7 +108,7 @@ module _ {X : Type 0} (point : X → Point) (news : X → Bool) (span unit : ℕ
         }
 
     -- made for no later time, it leaves the stream as it was
-    is_still : (r : Result (Told Moved) Refusal) → x.time ≤ time y → beside (time first) (Some (point y)) x ≡ r → is_news r ≡ false
+    is_still : (r : Result (Told Moved) Refusal) → x.time ≤ time y → expected_beside (time first) (Some (point y)) x ≡ r → is_news r ≡ false
         → placed_after s x.label x.arrival r ≡ s → Next (first ∷ xs) s x r
     is_still r l is quiet stays =
         let t = le-ltb (time y) x.time l in
@@ -133,7 +133,7 @@ module _ {X : Type 0} (point : X → Point) (news : X → Bool) (span unit : ℕ
         → Next (first ∷ xs) s x (told span unit s x.label x.arrival)
     one_more tx arrivals ages in_time = by (order (time y) x.time)
       where
-        is : told span unit s x.label x.arrival ≡ beside (time first) (Some (point y)) x
+        is : told span unit s x.label x.arrival ≡ expected_beside (time first) (Some (point y)) x
         is =
             ap (λ o. told span unit o x.label x.arrival) h.held
             ∙ told_rightly span unit (time first) (point y) x h.tells tx arrivals ages h.begun in_time

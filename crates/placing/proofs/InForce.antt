@@ -1,7 +1,7 @@
 -- The message in force is that of the latest news. Assumes nothing.
 use Rattle.std.proofs.Common.{◌≡◌, Bool, cond, List, [], ◌∷◌, Some, None, Option, Result, refl, ap, ◌∙◌, arith}
 use Rattle.std.proofs.lemmas.Grind.{common_steps}
-use Rattle.std.specs.Option.{option_map}
+use Rattle.std.specs.Option.{option_or, option_map}
 use Rattle.refusal.specs.declared.Refusal.{Refusal}
 use Rattle.type3.specs.Kinds.{Meaning}
 use Rattle.type3.specs.declared.payload.Payload.{Payload}
@@ -11,19 +11,15 @@ use Rattle.placing.specs.declared.stream.Told.{Told}
 use Rattle.placing.specs.Lists.{those, last}
 use Rattle.placing.specs.Placing.{place}
 use Rattle.placing.specs.Receiving.{Inbound, new_receiver, receive_by, receive}
-use Rattle.placing.specs.Arrivals.{is_news, Arrival, Heard, heard, after, InForceIsTheLatestNews}
+use Rattle.placing.specs.Arrivals.{is_news}
+use Rattle.placing.specs.InForce.{Arrival, Heard, heard, after, InForceIsTheLatestNews}
 
--- the first, or else the second
-abbrev or_else : {X : Type 0} → Option X → Option X → Option X
-or_else None o = o
-or_else (Some x) o = Some x
-
-or_none : {X : Type 0} (o : Option X) → or_else o None ≡ o
+or_none : {X : Type 0} (o : Option X) → option_or o None ≡ o
 or_none o = grind (arith, common_steps)
 
 -- one more at the front, if it passes
 one_more : {X Y : Type 0} (f : X → Y) (x : X) (xs : List X) (o : Option Y) (b : Bool)
-    → or_else (option_map f (last xs)) (cond b (Some (f x)) o) ≡ or_else (option_map f (last (cond b (x ∷ xs) xs))) o
+    → option_or (option_map f (last xs)) (cond b (Some (f x)) o) ≡ option_or (option_map f (last (cond b (x ∷ xs) xs))) o
 one_more f x xs o b = grind (arith, common_steps)
 
 module _ {M : Type 0} (k : Meaning M) where
@@ -35,14 +31,14 @@ module _ {M : Type 0} (k : Meaning M) where
   abbrev latest_of : List (Heard k) → Option M
   latest_of hs = option_map (λ h. h.arrival.says.message) (last (those (λ h. is_news h.answer) hs))
 
-  from : (s : Inbound M) (xs : List (Arrival k)) → (after k s xs).force ≡ or_else (latest_of (heard k s xs)) s.force
+  from : (s : Inbound M) (xs : List (Arrival k)) → (after k s xs).force ≡ option_or (latest_of (heard k s xs)) s.force
   from s [] = refl
   from s (x ∷ xs) =
       let p = place 16384 1 s.placed x.says.stamp x.time in
       let r = receive k s x.time x.says in
       let h : Heard k = record { arrival = x; answer = r.0 } in
       from r.1 xs
-      ∙ ap (or_else (latest_of (heard k r.1 xs))) (forced s x.says p.0 p.1)
+      ∙ ap (option_or (latest_of (heard k r.1 xs))) (forced s x.says p.0 p.1)
       ∙ one_more (λ h. h.arrival.says.message) h (those (λ h. is_news h.answer) (heard k r.1 xs)) s.force (is_news r.0)
 
   pub in_force_is_the_latest_news : InForceIsTheLatestNews k

@@ -154,8 +154,9 @@ rest_less (pos n) span h = mod-lt n h
 rest_less (negsuc n) span h = omega arith
 
 -- `nearest` finds what is nearest
-found_by : (span : ℕ) (labels : ℤ) (gap r : ℕ) → 0 < span → r < span → Agrees span (pos (gap + r)) labels → (a b : Bool) → ltb (2 * r) span ≡ a → ltb span (2 * r) ≡ b →
-    Found span labels gap (cond a (Some (pos (gap + r))) (cond b (Some (pos (gap + r) -ℤ pos span)) None))
+found_by : (span : ℕ) (labels : ℤ) (gap r : ℕ) → 0 < span → r < span → Agrees span (pos (gap + r)) labels
+    → (a b : Bool) → ltb (2 * r) span ≡ a → ltb span (2 * r) ≡ b
+    → Found span labels gap (cond a (Some (pos (gap + r))) (cond b (Some (pos (gap + r) -ℤ pos span)) None))
 found_by span labels gap r p l a true b e f = after span labels gap r a (ltb-true (2 * r) span e)
 found_by span labels gap r p l a false true e f = before span labels gap r a l (ltb-true span (2 * r) f)
 found_by span labels gap r p l a false false e f =

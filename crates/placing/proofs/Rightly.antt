@@ -10,7 +10,7 @@ use Rattle.placing.specs.declared.stream.Told.{Told}
 use Rattle.placing.specs.declared.stream.Told.TheVariants.{News}
 use Rattle.placing.specs.Lists.{all, greatest, everywhere, Everywhere}
 use Rattle.placing.specs.Placing.{told, placed_after}
-use Rattle.placing.specs.Arrivals.{Point, age, Tells, Moment, history, near_age, aged, in_order, beside, expected, start_of, is_news, points, Since, PlacesRightly}
+use Rattle.placing.specs.Arrivals.{Point, age, Tells, Moment, history, near_age, aged, in_order, expected_beside, expected, start_of, is_news, points, Since, PlacesRightly}
 use Rattle.placing.proofs.Leader.{greatest_passes}
 use Rattle.placing.proofs.Moments.{points_snoc, greatest_point}
 use Rattle.placing.proofs.Hearing as hearing
@@ -32,12 +32,14 @@ module _ (span unit : ℕ) where
   starts (m ∷ ms) = refl
 
   expects : (before : List Moment) (x : Point)
-      → beside (hearing.start_of point news span unit before) (option_map point (greatest (λ m. m.point.time) before)) x ≡ expected (points before) x
+      → expected_beside (hearing.start_of point news span unit before) (option_map point (greatest (λ m. m.point.time) before)) x
+      ≡ expected (points before) x
   expects before x =
-      ap (λ n. beside n (option_map point (greatest (λ m. m.point.time) before)) x) (starts before)
-      ∙ ap (λ o. beside (start_of (points before)) o x) (sym (greatest_point before))
+      ap (λ n. expected_beside n (option_map point (greatest (λ m. m.point.time) before)) x) (starts before)
+      ∙ ap (λ o. expected_beside (start_of (points before)) o x) (sym (greatest_point before))
 
-  since_of : (o : Option Moment) (x : Point) (r : Result (Told Moved) Refusal) → ((n : Moved) → r ≡ Ok (News n) → Passed point news span unit o x n.elapsed) → Since o x r
+  since_of : (o : Option Moment) (x : Point) (r : Result (Told Moved) Refusal)
+      → ((n : Moved) → r ≡ Ok (News n) → Passed point news span unit o x n.elapsed) → Since o x r
   since_of None x r p = tt
   since_of (Some m) x r p = p
 
@@ -56,8 +58,9 @@ module _ (span unit : ℕ) where
     exactly : Everywhere (λ before m. is_news m.answer ≡ all (λ b. ltb b.point.time m.point.time) before) before ms
     since : Everywhere (λ before m. Since (latest_news point news span unit before) m.point m.answer) before ms
 
-  rest : (xs : List Point) (before : List Moment) (s : Option Placed) → Hears point news span unit before s → Everywhere (λ before x. Tells span unit x) (points before) xs
-      → everywhere in_order (points before) xs ≡ true → everywhere (aged span) (points before) xs ≡ true → Rest before (history span unit s xs)
+  rest : (xs : List Point) (before : List Moment) (s : Option Placed) → Hears point news span unit before s
+      → Everywhere (λ before x. Tells span unit x) (points before) xs → everywhere in_order (points before) xs ≡ true
+      → everywhere (aged span) (points before) xs ≡ true → Rest before (history span unit s xs)
   rest [] before s h tells ordered ages = record { as_expected = tt; exactly = tt; since = tt }
   rest (x ∷ xs) before s h tells ordered ages =
       let r = told span unit s x.label x.arrival in

@@ -1,20 +1,15 @@
 -- The arrivals on a new stream, and what is true of how they are placed, in terms of the times that packets were made for.
 -- Assumes nothing.
-use Rattle.std.specs.Prelude.{◌≡◌, ℕ, ◌+◌, ◌-◌, ◌*◌, ◌/◌, ◌%◌, ◌<◌, ◌≤◌, Bool, true, false, cond, ◌&&◌, ltb, List, [], ◌∷◌, ℤ, pos, ◌-ℤ◌, Some, None, Ok, Err, Option, Result, ◌==◌, nat_le, nat_lt, unsigned_abs}
-use Rattle.std.specs.Option.{option_map}
+use Rattle.std.specs.Prelude.{◌≡◌, ℕ, ◌+◌, ◌-◌, ◌*◌, ◌/◌, ◌%◌, ◌<◌, ◌≤◌, Bool, true, false, cond, ◌&&◌, List, [], ◌∷◌, ℤ, pos, ◌-ℤ◌, Some, None, Ok, Err, Option, Result, ◌==◌, nat_le, nat_lt, unsigned_abs}
 use Rattle.refusal.specs.Questions.{is_time}
 use Rattle.refusal.specs.declared.Refusal.{Refusal}
-use Rattle.type3.specs.Kinds.{Meaning}
-use Rattle.type3.specs.declared.payload.Payload.{Payload}
 use Rattle.placing.specs.declared.stream.Placed.{Placed}
 use Rattle.placing.specs.declared.stream.Moved.{Moved}
 use Rattle.placing.specs.declared.stream.Told.{Told}
 use Rattle.placing.specs.declared.stream.Told.TheVariants.{News, Repeat, Late}
-use Rattle.placing.specs.declared.receiver.MessageNews.{MessageNews}
 use Rattle.placing.specs.Lists.{all, those, last, greatest, everywhere, Everywhere}
 use Rattle.placing.specs.Nearest.{Agrees, labels_apart, nearest}
 use Rattle.placing.specs.Placing.{place}
-use Rattle.placing.specs.Receiving.{Inbound, new_receiver, receive}
 
 -- ---- packets and their labels
 
@@ -44,7 +39,8 @@ LabelsTell =
 
 -- ---- placed where it was made
 
--- Of two packets whose ages differ by less than half the span, the elapsed time is that between the times they were made for.
+-- Of two packets that arrive in order and whose ages differ by less than half the span, the elapsed time is that between the
+-- times they were made for.
 abbrev pub PlacedWhereMade : Type 0
 PlacedWhereMade =
     (span unit : ℕ) (y x : Point) → Tells span unit y → Tells span unit x → y.arrival ≤ x.arrival → 2 * unsigned_abs (age x -ℤ age y) < span
@@ -77,9 +73,9 @@ abbrev pub in_order : List Point → Point → Bool
 in_order before x = is_time x.time && all (λ y. nat_le y.arrival x.arrival) before
 
 -- what an arrival is to be answered, beside those before it: the first of them, and the one made for the latest time
-abbrev pub beside : ℕ → Option Point → Point → Result (Told Moved) Refusal
-beside start None x = Ok (News (record { elapsed = 0; position = 0 }))
-beside start (Some y) x =
+abbrev pub expected_beside : ℕ → Option Point → Point → Result (Told Moved) Refusal
+expected_beside start None x = Ok (News (record { elapsed = 0; position = 0 }))
+expected_beside start (Some y) x =
     cond (nat_lt y.time x.time) (Ok (News (record { elapsed = x.time - y.time; position = x.time - start })))
     (cond (x.time == y.time) (Ok Repeat) (Ok Late))
 
@@ -88,7 +84,7 @@ start_of [] = 0
 start_of (x ∷ xs) = x.time
 
 abbrev pub expected : List Point → Point → Result (Told Moved) Refusal
-expected before x = beside (start_of before) (greatest (λ y. y.time) before) x
+expected before x = expected_beside (start_of before) (greatest (λ y. y.time) before) x
 
 abbrev pub is_news : {N : Type 0} → Result (Told N) Refusal → Bool
 is_news (Ok (News n)) = true
@@ -109,7 +105,7 @@ pub record PlacedRightly (ms : List Moment) : Type 0 where
   -- each answer is the one that the times tell
   pub as_expected : Everywhere (λ before m. m.answer ≡ expected (points before) m.point) [] ms
   -- news exactly when made for a later time than all before
-  pub news_exactly_when_later : Everywhere (λ before m. is_news m.answer ≡ all (λ b. ltb b.point.time m.point.time) before) [] ms
+  pub news_exactly_when_later : Everywhere (λ before m. is_news m.answer ≡ all (λ b. nat_lt b.point.time m.point.time) before) [] ms
   -- the elapsed time is that since the news before
   pub elapsed_since_news : Everywhere (λ before m. Since (last (those (λ b. is_news b.answer) before)) m.point m.answer) [] ms
 
@@ -117,30 +113,5 @@ pub record PlacedRightly (ms : List Moment) : Type 0 where
 -- their rule.
 abbrev pub PlacesRightly : Type 0
 PlacesRightly =
-    (span unit : ℕ) (xs : List Point) → Everywhere (λ before x. Tells span unit x) [] xs → everywhere in_order [] xs ≡ true → everywhere (aged span) [] xs ≡ true
-    → PlacedRightly (history span unit None xs)
-
--- ---- the message in force
-
-module _ {M : Type 0} (k : Meaning M) where
-  -- what a payload that was read says, and when it arrived
-  pub record Arrival : Type 0 where
-    pub time : ℕ
-    pub says : Payload M
-
-  pub record Heard : Type 0 where
-    pub arrival : Arrival
-    pub answer : Result (Told (MessageNews M)) Refusal
-
-  abbrev pub heard : Inbound M → List Arrival → List Heard
-  heard s [] = []
-  heard s (x ∷ xs) = let r = receive k s x.time x.says in record { arrival = x; answer = r.0 } ∷ heard r.1 xs
-
-  abbrev pub after : Inbound M → List Arrival → Inbound M
-  after s [] = s
-  after s (x ∷ xs) = after (receive k s x.time x.says).1 xs
-
-  -- on a new stream, the message in force is that of the latest news, and there is none before any
-  abbrev pub InForceIsTheLatestNews : Type 0
-  InForceIsTheLatestNews =
-      (xs : List Arrival) → (after new_receiver xs).force ≡ option_map (λ h. h.arrival.says.message) (last (those (λ h. is_news h.answer) (heard new_receiver xs)))
+    (span unit : ℕ) (xs : List Point) → Everywhere (λ before x. Tells span unit x) [] xs → everywhere in_order [] xs ≡ true
+    → everywhere (aged span) [] xs ≡ true → PlacedRightly (history span unit None xs)

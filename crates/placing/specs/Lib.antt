@@ -4,3 +4,4 @@ pub mod News
 pub mod Receiving
 pub mod Lists
 pub mod Arrivals
+pub mod InForce

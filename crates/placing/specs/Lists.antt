@@ -19,20 +19,22 @@ abbrev pub last : {X : Type 0} → List X → Option X
 last [] = None
 last (x ∷ xs) = Some (last_or x xs)
 
--- the one with the greatest number; of several, the first
+-- the one of greater number, of one and what may come after it; of equals, the first
 abbrev pub greater : {X : Type 0} → (X → ℕ) → X → Option X → X
 greater number x None = x
 greater number x (Some y) = cond (nat_lt (number x) (number y)) y x
 
+-- the one with the greatest number; of several, the first
 abbrev pub greatest : {X : Type 0} → (X → ℕ) → List X → Option X
 greatest number [] = None
 greatest number (x ∷ xs) = Some (greater number x (greatest number xs))
 
--- what is found at each of a list, beside those before it
+-- one more in front, if there is one
 abbrev pub add : {Y : Type 0} → Option Y → List Y → List Y
 add None ys = ys
 add (Some y) ys = y ∷ ys
 
+-- what is found at each of a list, beside those before it
 abbrev pub gather : {X Y : Type 0} → (List X → X → Option Y) → List X → List X → List Y
 gather find before [] = []
 gather find before (x ∷ xs) = add (find before x) (gather find (before ++ (x ∷ [])) xs)

@@ -32,7 +32,9 @@ rest (negsuc n) span = span - 1 - n % span
 
 -- the first number from the gap on that agrees, or the last before it, whichever is nearer; none where both are as near
 abbrev pub by_rest : ℕ → ℕ → ℕ → Option ℤ
-by_rest span gap r = cond (nat_lt (2 * r) span) (Some (pos (gap + r))) (cond (nat_lt span (2 * r)) (Some (pos (gap + r) -ℤ pos span)) None)
+by_rest span gap r =
+    cond (nat_lt (2 * r) span) (Some (pos (gap + r)))
+    (cond (nat_lt span (2 * r)) (Some (pos (gap + r) -ℤ pos span)) None)
 
 abbrev pub nearest : ℕ → ℤ → ℕ → Option ℤ
 nearest span labels gap = by_rest span gap (rest (labels -ℤ pos gap) span)

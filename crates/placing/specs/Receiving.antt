@@ -43,7 +43,8 @@ module _ {M : Type 0} where
     force_after force m Repeat = force
     force_after force m Late = force
 
-    abbrev pub receive_by : Inbound M → Payload M → Result (Told Moved) Refusal → Option Placed → Result (Told (MessageNews M)) Refusal × Inbound M
+    abbrev pub receive_by : Inbound M → Payload M → Result (Told Moved) Refusal → Option Placed
+        → Result (Told (MessageNews M)) Refusal × Inbound M
     receive_by s x (Err f) placed = (Err f, s)
     receive_by s x (Ok n) placed = (Ok (told_as s.force x n), record { placed = placed; force = force_after s.force x.message n })
 

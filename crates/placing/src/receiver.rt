@@ -1,7 +1,7 @@
 // The receiving half of a message stream.
 ghost use Rattle.std.specs.Prelude.{◌≡◌};
 ghost use Rattle.placing.specs.Receiving.{new_receiver, class_of, receive};
-ghost use Rattle.placing.specs.Arrivals.{InForceIsTheLatestNews};
+ghost use Rattle.placing.specs.InForce.{InForceIsTheLatestNews};
 
 use crate::span::Labelling;
 use crate::stream::{Moved, Stream, Told};
@@ -45,6 +45,7 @@ impl<K: Kind> Model for Receiver<K> {
 }
 
 impl<K: Kind> Receiver<K> {
+    // A new stream, on which the message in force is that of the latest news.
     pub fn new() -> Receiver<K>
         ensures new { result ≡ new_receiver }
         ensures force { InForceIsTheLatestNews K.Kind.model }

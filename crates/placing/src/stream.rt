@@ -9,7 +9,7 @@ use refusal::times::{Time, is_time};
 use refusal::{PlacingFault, Refusal};
 use std::marker::Model;
 
-// The latest news of a stream: its label, when it arrived, and the time since the first news. (Numbers, as a host reads them.)
+// The latest news of a stream: its label, when it arrived, and the time since the first news.
 #[derive(Clone, Copy, Debug, PartialEq, Eq)]
 pub struct Placed {
     pub label: u16,
@@ -39,7 +39,7 @@ impl<T> Told<T> {
     }
 }
 
-// The time since the news before, and since the first news.
+// The time since the news before, and since the first news. (Numbers, as a host reads them.)
 #[derive(Clone, Copy, Debug, PartialEq, Eq)]
 pub struct Moved {
     pub elapsed: u64,
@@ -64,6 +64,7 @@ impl Model for Stream {
 }
 
 impl Stream {
+    // A new stream. Its laws: labels tell the time, and every list of arrivals on it is placed rightly.
     pub fn new() -> Stream
         ensures latest { result ≡ None }
         ensures stamps { StampsTell }
@@ -122,16 +123,16 @@ fn beside(
 fn by_sign(position: u64, elapsed: i64) -> Result<Told<Moved>, Refusal>
     ensures { result ≡ by_sign position elapsed }
 {
-    if elapsed < 0 {
-        return Ok(Told::Late);
+    match elapsed {
+        i64::MIN..=-1 => Ok(Told::Late),
+        0 => Ok(Told::Repeat),
+        _ => {
+            let elapsed = elapsed as u64;
+            let position = position
+                .checked_add(elapsed)
+                .filter(|position| is_time(*position))
+                .ok_or(PlacingFault::PositionOutOfRange)?;
+            Ok(Told::News(Moved { elapsed, position }))
+        }
     }
-    if elapsed == 0 {
-        return Ok(Told::Repeat);
-    }
-    let elapsed = elapsed as u64;
-    let position = position
-        .checked_add(elapsed)
-        .filter(|position| is_time(*position))
-        .ok_or(PlacingFault::PositionOutOfRange)?;
-    Ok(Told::News(Moved { elapsed, position }))
 }

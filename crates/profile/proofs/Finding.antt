@@ -1,4 +1,5 @@
--- A UUI and a length name at most one entry of a profile, and it is found. Assumes nothing.
+-- What every profile guarantees, above all that a UUI and a length name at most one entry; and that entry is found. Assumes
+-- nothing.
 use Rattle.std.proofs.Common.{◌≡◌, ℕ, ◌+◌, ◌-◌, ◌*◌, ◌/◌, ◌%◌, ◌<◌, ◌≤◌, true, false, not, cond, nat_lt, List, length, take, get_or, is_some, Some, None, Option, sym, refl, ap, ◌∙◌, subst, div-add-mod', arith}
 use lib.Arith.{digits_div}
 use Rattle.std.proofs.lemmas.Bool.Decides.{nat_tests}
@@ -12,7 +13,7 @@ use Rattle.profile.specs.Questions.{width, alike, differs, refusal}
 use Rattle.profile.specs.Labels.{has, find}
 use Rattle.profile.specs.Guarantees.{At, Guarantees, Found}
 use Rattle.profile.proofs.Walks.{blank}
-use Rattle.profile.proofs.Sound.{ZeroOne, never, Numbers, passed_at, numbers_at, one_width, one_interval, one_span}
+use Rattle.profile.proofs.Sound.{Numbers, passed_at, numbers_at, one_width, one_interval, one_span}
 
 -- a block of w numbers that begins at a multiple of w is known from each of its numbers
 block : (w a u : ℕ) → a % w ≡ 0 → a ≤ u → u < a + w → u / w * w ≡ a
@@ -47,7 +48,7 @@ module _ (es : List Entry) (h : is_some (refusal es) ≡ false) where
   earlier uui len i j e f a b p q lt =
       let d = differs_at es i j e f a b lt (passed_at es h j f b).own in
       let s = same_block e f uui len (numbers_at es h i e a) (numbers_at es h j f b) (one_width es h i j e f a b) p q in
-      let z : ZeroOne = cc in never z
+      cc
 
   one_entry : (uui len i j : ℕ) (e f : Entry) → At es i e → At es j f → has e uui len ≡ true → has f uui len ≡ true → i ≡ j
   one_entry uui len i j e f a b p q =
@@ -81,7 +82,7 @@ module _ (uui len : ℕ) (es : List Entry) (h : is_some (refusal es) ≡ false) 
           let past = unplaced (position_or_len (λ x. has x uui len) es) (length es) is in
           let no = fails_before_first (λ x. has x uui len) es p blank (omega (arith, slice_get_within es p e a, past)) in
           let same = get_or_from_slice_get es p e blank a in
-          let z : ZeroOne = cc (ap (λ x. has x uui len) same) in never z
+          cc (ap (λ x. has x uui len) same)
       by (Some q) is p e a t =
           let r = there q is in ap (λ n. Some n) (one_entry es h uui len q p r.0 e r.1 a r.2 t)
 

@@ -7,7 +7,7 @@ use Rattle.profile.specs.declared.entry.Entry.{Entry}
 use Rattle.profile.specs.Questions.{width, refusal}
 use Rattle.profile.specs.Labels.{label, label_at, interval_of}
 use Rattle.profile.specs.Guarantees.{Labelled}
-use Rattle.profile.proofs.Sound.{ZeroOne, never, Numbers, numbers_at, one_width, one_interval}
+use Rattle.profile.proofs.Sound.{Numbers, numbers_at, one_width, one_interval}
 
 label_inside : (e : Entry) (t : ℕ) → Numbers e → (e.first ≤ label e t) × (label e t ≤ e.last)
 label_inside e t n =
@@ -26,7 +26,7 @@ pub labelled : (es : List Entry) → is_some (refusal es) ≡ false → (place t
 labelled es h place t = by (slice_get es place) refl
   where
     by : (o : Option Entry) → slice_get es place ≡ o → Labelled es place t (option_map (λ e. label e t) o)
-    by None is = record { inside = λ e v a r. let z : ZeroOne = cc in never z; counts = λ i e v a r. let z : ZeroOne = cc in never z }
+    by None is = record { inside = λ e v a r. cc; counts = λ i e v a r. cc }
     by (Some x) is = record {
       inside = λ e v a r.
           let same : x ≡ e = cc in

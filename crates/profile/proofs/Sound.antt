@@ -13,32 +13,26 @@ use Rattle.profile.specs.Questions.{width, in_range, good_length, aligned, good_
 use Rattle.profile.specs.Labels.{interval_of, span_of}
 use Rattle.profile.specs.Guarantees.{At}
 
-abbrev pub ZeroOne : Type 0
-ZeroOne = ◌≡◌ {A = ℕ} 0 1
-
-pub never : {X : Type 0} → ZeroOne → X
-never h = absurd (let k : ⊥ = omega arith in k)
-
 -- every question is answered yes
 pub record Passed (before : List Entry) (e : Entry) : Type 0 where
   pub ranged : in_range e ≡ true
   pub long : good_length e ≡ true
-  pub even : aligned e ≡ true
+  pub multiple_of_width : aligned e ≡ true
   pub timed : good_times e ≡ true
   pub like : like_first before e ≡ true
   pub own : differs before e ≡ true
 
 passed : (before : List Entry) (place : ℕ) (e : Entry) → first_no (questions before place e) ≡ None → Passed before e
 passed before place e h =
-    let y = (accepted (λ f. Some f) None (questions before place e) None (λ f d. let z : ZeroOne = cc in never z) h).0 in
-    record { ranged = y.0; long = y.1.0; even = y.1.1.0; timed = y.1.1.1.0; like = y.1.1.1.1.0; own = y.1.1.1.1.1.0 }
+    let y = (accepted (λ f. Some f) None (questions before place e) None (λ f d. cc) h).0 in
+    record { ranged = y.0; long = y.1.0; multiple_of_width = y.1.1.0; timed = y.1.1.1.0; like = y.1.1.1.1.0; own = y.1.1.1.1.1.0 }
 
 none_of : (o later : Option Refusal) → option_or o later ≡ None → (o ≡ None) × (later ≡ None)
 none_of None later h = (refl, h)
-none_of (Some f) later h = let z : ZeroOne = cc in never z
+none_of (Some f) later h = cc
 
 from_at : (before : List Entry) (n : ℕ) (es : List Entry) → refusal_from before n es ≡ None → (i : ℕ) (e : Entry) → At es i e → Passed (before ++ take i es) e
-from_at before n [] h i e a = let z : ZeroOne = cc in never z
+from_at before n [] h i e a = cc
 from_at before n (x ∷ es) h zero e a =
     let p = passed before n x (none_of (first_no (questions before n x)) _ h).0 in
     let is : x ≡ e = cc in
@@ -52,8 +46,8 @@ not_refused es h = by (from_to 1 32 (length es)) (refusal_from [] 0 es) h
   where
     by : (b : Bool) (o : Option Refusal) → is_some (cond b o (Some (Profile EntryCount 0))) ≡ false → o ≡ None
     by true None h = refl
-    by true (Some f) h = let z : ZeroOne = cc in never z
-    by false o h = let z : ZeroOne = cc in never z
+    by true (Some f) h = cc
+    by false o h = cc
 
 pub passed_at : (es : List Entry) → is_some (refusal es) ≡ false → (i : ℕ) (e : Entry) → At es i e → Passed (take i es) e
 passed_at es h i e a = from_at [] 0 es (not_refused es h) i e a
@@ -64,19 +58,26 @@ pub record Numbers (e : Entry) : Type 0 where
   pub high : e.last ≤ 15
   pub wide : 1 ≤ width e
   pub multiple : e.first % width e ≡ 0
-  pub slow : 1 ≤ e.interval
+  pub some_interval : 1 ≤ e.interval
 
 numbers : (before : List Entry) (e : Entry) → Passed before e → Numbers e
 numbers before e p =
-    let r = p.ranged in let a = p.even in let t = p.timed in
-    record { low = grind (arith, nat_tests); high = grind (arith, nat_tests); wide = omega arith; multiple = grind (arith, nat_tests); slow = grind (arith, nat_tests) }
+    let r = p.ranged in let a = p.multiple_of_width in let t = p.timed in
+    record {
+      low = grind (arith, nat_tests);
+      high = grind (arith, nat_tests);
+      wide = omega arith;
+      multiple = grind (arith, nat_tests);
+      some_interval = grind (arith, nat_tests);
+    }
 
 pub numbers_at : (es : List Entry) → is_some (refusal es) ≡ false → (i : ℕ) (e : Entry) → At es i e → Numbers e
 numbers_at es h i e a = numbers (take i es) e (passed_at es h i e a)
 
-pub good_at : (es : List Entry) → is_some (refusal es) ≡ false → (i : ℕ) (o : Option Entry) → slice_get es i ≡ o → IfSome o (λ e. (e.first ≤ e.last) × (e.last ≤ 15) × (1 ≤ e.interval))
+pub good_at : (es : List Entry) → is_some (refusal es) ≡ false → (i : ℕ) (o : Option Entry) → slice_get es i ≡ o
+    → IfSome o (λ e. (e.first ≤ e.last) × (e.last ≤ 15) × (1 ≤ e.interval))
 good_at es h i None is = tt
-good_at es h i (Some e) is = let n = numbers_at es h i e is in (n.low, n.high, n.slow)
+good_at es h i (Some e) is = let n = numbers_at es h i e is in (n.low, n.high, n.some_interval)
 
 -- ---- one width and one interval
 
@@ -86,16 +87,16 @@ like_zero z es zero e a l = let is : z ≡ e = cc in (sym (ap width is), sym (ap
 like_zero z es (suc i) e a l = (grind (arith, nat_tests), grind (arith, nat_tests))
 
 pub one_width : (es : List Entry) → is_some (refusal es) ≡ false → (i j : ℕ) (e f : Entry) → At es i e → At es j f → width e ≡ width f
-one_width [] h i j e f a b = let z : ZeroOne = cc in never z
+one_width [] h i j e f a b = cc
 one_width (z ∷ es) h i j e f a b =
     let x = like_zero z es i e a (passed_at (z ∷ es) h i e a).like in
     let y = like_zero z es j f b (passed_at (z ∷ es) h j f b).like in
     x.0 ∙ sym y.0
 
 pub one_interval : (es : List Entry) → is_some (refusal es) ≡ false → (i : ℕ) (e : Entry) → At es i e → e.interval ≡ interval_of es
-one_interval [] h i e a = let z : ZeroOne = cc in never z
+one_interval [] h i e a = cc
 one_interval (z ∷ es) h i e a = (like_zero z es i e a (passed_at (z ∷ es) h i e a).like).1
 
 pub one_span : (es : List Entry) → is_some (refusal es) ≡ false → (i : ℕ) (e : Entry) → At es i e → span_of es ≡ width e * e.interval
-one_span [] h i e a = let z : ZeroOne = cc in never z
+one_span [] h i e a = cc
 one_span (z ∷ es) h i e a = let x = like_zero z es i e a (passed_at (z ∷ es) h i e a).like in sym (ap₂ (λ (w v : ℕ). w * v) x.0 x.1)

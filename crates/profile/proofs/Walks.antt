@@ -1,4 +1,4 @@
--- A walk over a list of entries, one turn. Assumes nothing.
+-- The refusal of a list of entries, unrolled by one entry, for the loop of `check_entries`. Assumes nothing.
 use Rattle.std.proofs.Common.{◌≡◌, suc, ◌+◌, ◌<◌, ◌≤◌, true, cond, List, [], length, get_or, take, drop, Some, None, Ok, Err, Option, ℕ, sym, ap, ◌∙◌, add-one, arith, drop-cons}
 use Rattle.std.specs.Option.{option_or, option_map}
 use Rattle.std.proofs.lemmas.List.{take_more}

@@ -9,7 +9,7 @@ use Rattle.profile.specs.declared.examples.Example.TheVariants.{A, B, C}
 abbrev pub entry : Option ℕ → ℕ → ℕ → ℕ → ℕ → ℕ → Entry
 entry i f a b n t = record { index = i; format = f; first = a; last = b; length = n; packet_time = t; interval = 5 }
 
--- sixteen labels, told apart by length alone
+-- sixteen labels; the entries are told apart by length alone
 abbrev pub example_a : List Entry
 example_a =
     entry (Some 0) 1 0 15 40 5

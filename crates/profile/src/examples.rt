@@ -15,21 +15,20 @@ use std::fmt;
 use std::str::FromStr;
 
 // The encoding formats that the examples use, by the numbers that entries have.
-#[derive(Clone, Copy, Debug, PartialEq, Eq)]
-pub enum Format {
+enum Format {
     // G.711 at 64 kbit/s
     Pcm64 = 1,
     // G.711 at 56 kbit/s
     Pcm56 = 2,
     // G.726 at 32 kbit/s
     Adpcm32 = 3,
-    // G.727 with 5 and 2 bits
+    // G.727 with 5 bits, 2 of them core bits
     Eadpcm5And2 = 4,
-    // G.727 with 4 and 2 bits
+    // G.727 with 4 bits, 2 of them core bits
     Eadpcm4And2 = 5,
-    // G.727 with 3 and 2 bits
+    // G.727 with 3 bits, 2 of them core bits
     Eadpcm3And2 = 6,
-    // G.727 with 2 and 2 bits
+    // G.727 with 2 core bits
     Eadpcm2And2 = 7,
     // G.729 at 8 kbit/s
     CsAcelp8 = 8,
@@ -53,8 +52,8 @@ macro_rules! entry {
     };
 }
 
-// Sixteen labels, told apart by length alone.
-pub const EXAMPLE_A: [Entry; 6] = [
+// Sixteen labels; the entries are told apart by length alone.
+const EXAMPLE_A: [Entry; 6] = [
     entry!(Some(0), Pcm64, 0..=15, 40, 5),
     entry!(Some(1), Eadpcm5And2, 0..=15, 25, 5),
     entry!(Some(2), Eadpcm4And2, 0..=15, 20, 5),
@@ -64,7 +63,7 @@ pub const EXAMPLE_A: [Entry; 6] = [
 ];
 
 // Eight labels each for A-law and µ-law.
-pub const EXAMPLE_B: [Entry; 6] = [
+const EXAMPLE_B: [Entry; 6] = [
     entry!(Some(0), Pcm64, 0..=7, 40, 5),
     entry!(Some(1), Pcm56, 0..=7, 35, 5),
     entry!(None, Sid, 0..=7, 1, 5),
@@ -74,7 +73,7 @@ pub const EXAMPLE_B: [Entry; 6] = [
 ];
 
 // Four labels each, and packets of several times.
-pub const EXAMPLE_C: [Entry; 8] = [
+const EXAMPLE_C: [Entry; 8] = [
     entry!(Some(0), Pcm64, 0..=3, 40, 5),
     entry!(Some(1), Pcm56, 0..=3, 35, 5),
     entry!(Some(2), Adpcm32, 4..=7, 40, 10),

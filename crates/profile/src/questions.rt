@@ -41,7 +41,7 @@ impl Entry {
     fn good_length(self) -> bool
         ensures { result ≡ good_length self }
     {
-        1 <= self.length && self.length <= 64
+        matches!(self.length, 1..=64)
     }
 
     // How many UUIs it has, where its range is in order.
@@ -61,10 +61,8 @@ impl Entry {
     fn good_times(self) -> bool
         ensures { result ≡ good_times self }
     {
-        1 <= self.interval
-            && self.interval <= 255
-            && 1 <= self.packet_time
-            && self.packet_time <= 65535
+        matches!(self.interval, 1..=255)
+            && matches!(self.packet_time, 1..=65_535)
             && self.packet_time % u32::from(self.interval) == 0
     }
 
@@ -85,8 +83,8 @@ fn like_first(before: &[Entry], entry: Entry) -> bool
 }
 
 // Whether no entry before has both the range and the length.
-fn differs(before: &[Entry], one: Entry) -> bool
-    ensures { result ≡ differs before.now one }
+fn differs(before: &[Entry], entry: Entry) -> bool
+    ensures { result ≡ differs before.now entry }
 {
-    before.iter().all(|earlier| !earlier.alike(one))
+    before.iter().all(|earlier| !earlier.alike(entry))
 }

@@ -1,23 +1,22 @@
 -- A time is behind a stream when an event at it would not be later than the latest event and the last refresh. What is behind
--- stays behind, the time of a packet is behind once it is made, and each event that is accepted is later than all behind it.
--- Assumes nothing.
+-- stays so, the time of a packet is behind once it is made, and each accepted event is later than all behind. Assumes nothing.
 use Rattle.std.proofs.Common.{◌≡◌, ℕ, ◌<◌, ◌≤◌, true, false, List, length, Some, subst, arith}
 use Rattle.std.proofs.lemmas.Bool.Decides.{nat_tests}
 use Rattle.std.proofs.lemmas.Bool.{cases_lt}
 use Rattle.type3.specs.Kinds.{Meaning}
 use Rattle.sending.specs.declared.event.Event.{Event}
-use Rattle.sending.specs.Sending.{Stream, due_of, after_packet}
+use Rattle.sending.specs.Sending.{Stream, later_than_made, due_of, after_packet}
 use Rattle.sending.specs.declared.event.Packet.{Packet}
 use Rattle.sending.specs.Runs.{Call, accepted, made, neither, Did, OfEvent, does, step}
-use Rattle.sending.proofs.Turns.{Current, free, each_call}
+use Rattle.sending.proofs.Turns.{Current, each_call}
 use Rattle.sending.proofs.Kept.{Kept, due_is}
 
 module _ {M : Type 0} where
   abbrev pub Behind : Stream M → ℕ → Type 0
-  Behind s x = free s x ≡ false
+  Behind s x = later_than_made s x ≡ false
 
   -- where one time is behind and another is not, the other is later
-  pub ahead : (s : Stream M) (x t : ℕ) → Behind s x → free s t ≡ true → x < t
+  pub ahead : (s : Stream M) (x t : ℕ) → Behind s x → later_than_made s t ≡ true → x < t
   ahead s x t behind ok = grind (arith, nat_tests)
 
   module _ (k : Meaning M) (s : Stream M) (ts : List ℕ) (kept : Kept k s ts) where

@@ -6,9 +6,9 @@ use Rattle.refusal.specs.declared.Refusal.{Refusal}
 use Rattle.type3.specs.Kinds.{Meaning, Lawful}
 use Rattle.sending.specs.declared.event.Event.{Event}
 use Rattle.sending.specs.Sending as on
-use Rattle.sending.specs.Sending.{Stream, event_questions, due_of, sent, due_questions}
+use Rattle.sending.specs.Sending.{Stream, event_questions, after_event, due_of, sent, due_questions}
 use Rattle.sending.specs.Runs.{due, does, step, history, each_millisecond, plan, goes, planned, KeepsItsMoments}
-use Rattle.sending.proofs.Turns.{after_event, taken}
+use Rattle.sending.proofs.Turns.{taken}
 use Rattle.sending.proofs.Moments.{as_due, Copying, At, at_clock, turn}
 
 module _ {M : Type 0} (k : Meaning M) (law : Lawful k) (e : Event M) where
@@ -16,7 +16,8 @@ module _ {M : Type 0} (k : Meaning M) (law : Lawful k) (e : Event M) where
     not_refused : (s : Stream M) (t : ℕ) → t ≤ 1099511627775 → s.clock ≤ t → on.due k s t room ≡ sent k s t (due_of s t)
     not_refused s t in_range later = grind (arith, nat_tests)
 
-    run : (n i : ℕ) (s : Stream M) → At k law e i s → e.time + i + n ≤ 1099511627776 → history k s (each_millisecond k (e.time + i) room n) ≡ planned k e i n
+    run : (n i : ℕ) (s : Stream M) → At k law e i s → e.time + i + n ≤ 1099511627776
+        → history k s (each_millisecond k (e.time + i) room n) ≡ planned k e i n
     run zero i s a in_range = refl
     run (suc n) i s a in_range =
         let t = e.time + i in
@@ -36,11 +37,18 @@ module _ {M : Type 0} (k : Meaning M) (law : Lawful k) where
       e : Event M
       e = record { time = t; message = m }
 
-      by : (o : Option Refusal) → (unless o s (taken s e)).0 ≡ Ok tt → history k (unless o s (taken s e)).1 (each_millisecond k t room n) ≡ planned k e 0 n
+      by : (o : Option Refusal) → (unless o s (taken s e)).0 ≡ Ok tt
+          → history k (unless o s (taken s e)).1 (each_millisecond k t room n) ≡ planned k e 0 n
       by None ok =
           let start : t ≡ t + 0 = omega arith in
           let last = leb-true (t + n - 1) 1099511627775 in_range in
-          let new : Copying k law e 0 (after_event s e) = record { clock = omega arith; latest = refl; few = omega arith; low = omega arith; high = omega arith } in
+          let new : Copying k law e 0 (after_event s e) = record {
+            clock = omega arith;
+            latest = refl;
+            few = omega arith;
+            low = omega arith;
+            high = omega arith;
+          } in
           ap (λ x. history k (after_event s e) (each_millisecond k x room n)) start
           ∙ run k law e room fits n 0 (after_event s e) (inl new) (omega arith)
       by (Some f) ok = cc

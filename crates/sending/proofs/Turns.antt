@@ -1,12 +1,12 @@
 -- What a call on a message stream does: it is refused, or its event is accepted, or nothing is due, or a packet is made.
 -- Assumes nothing.
-use Rattle.std.proofs.Common.{◌≡◌, ℕ, ◌≤◌, Bool, true, ◌&&◌, Some, None, Ok, Option, Result, refl, arith}
+use Rattle.std.proofs.Common.{◌≡◌, ℕ, ◌≤◌, true, Some, None, Ok, Option, Result, refl, arith}
 use Rattle.std.proofs.lemmas.Bool.Decides.{nat_tests}
 use Rattle.refusal.specs.Questions.{first_no, unless}
 use Rattle.refusal.specs.declared.Refusal.{Refusal}
 use Rattle.type3.specs.Kinds.{Meaning}
 use Rattle.sending.specs.declared.event.Event.{Event}
-use Rattle.sending.specs.Sending.{Stream, later, later_than_event, event_questions, due_of, after_packet, sent, due_questions}
+use Rattle.sending.specs.Sending.{Stream, later_than_made, event_questions, after_event, due_of, after_nothing, after_packet, sent, due_questions}
 use Rattle.sending.specs.declared.event.Packet.{Packet}
 use Rattle.sending.specs.Runs.{Call, event, due, Did, accepted, made, neither, did_event, did_due, does, step}
 
@@ -16,22 +16,12 @@ pub record Current (clock t : ℕ) : Type 0 where
   pub not_behind : clock ≤ t
 
 module _ {M : Type 0} where
-  -- later than the latest event and the last refresh
-  abbrev pub free : Stream M → ℕ → Bool
-  free s t = later_than_event s.latest t && later s.refreshed t
-
-  abbrev pub after_event : Stream M → Event M → Stream M
-  after_event s e = record { clock = e.time; latest = Some e; copies = 0; refresh = None; refreshed = s.refreshed }
-
   abbrev pub taken : Stream M → Event M → Result (Unit {0}) Refusal × Stream M
   taken s e = (Ok tt, after_event s e)
 
-  abbrev pub after_nothing : Stream M → ℕ → Stream M
-  after_nothing s t = record { clock = t; latest = s.latest; copies = s.copies; refresh = s.refresh; refreshed = s.refreshed }
-
   module _ (k : Meaning M) (s : Stream M) (P : Did M → Stream M → Type 0)
       (refused : P neither s)
-      (event_taken : (e : Event M) → Current s.clock e.time → free s e.time ≡ true → P (accepted e) (after_event s e))
+      (event_taken : (e : Event M) → Current s.clock e.time → later_than_made s e.time ≡ true → P (accepted e) (after_event s e))
       (nothing_due : (t : ℕ) → Current s.clock t → P neither (after_nothing s t))
       (packet_made : (t : ℕ) (d : Packet M) → Current s.clock t → due_of s t ≡ Some d → P (made t d) (after_packet k s t d)) where
     -- what is so of each of these is so of every call

@@ -1,4 +1,5 @@
--- Sending audio. Assumes nothing.
+-- Sending audio. A sender holds the time before which no packet may start: 0 at first, and then the end of the last accepted
+-- packet. Assumes nothing.
 use Rattle.std.specs.Prelude.{ℕ, ◌+◌, ◌%◌, Bool, List, [], ◌∷◌, Some, None, Ok, Err, Option, Result, ◌==◌, nat_le}
 use Rattle.std.specs.List.{slice_get}
 use Rattle.refusal.specs.Questions.{first_no, unless, is_time}
@@ -8,7 +9,7 @@ use Rattle.refusal.specs.declared.SendingFault.TheVariants.{TimeOutOfRange, NoEn
 use Rattle.profile.specs.declared.entry.Entry.{Entry}
 use Rattle.profile.specs.Labels.{label}
 
--- A sender of audio holds the time before which no packet may start: 0 at first, and then the end of the last accepted packet.
+-- what n octets from a time on are asked under an entry
 abbrev pub audio_questions : ℕ → ℕ → ℕ → Entry → List (Bool × Refusal)
 audio_questions free t n e =
     ((n == e.length), Sending PayloadLength)

@@ -45,10 +45,6 @@ module _ {M : Type 0} where
     history s [] = []
     history s (c ∷ cs) = does s c ∷ history (step s c) cs
 
-    abbrev pub after : Stream M → List (Call M) → Stream M
-    after s [] = s
-    after s (c ∷ cs) = after (step s c) cs
-
 -- ---- words for a history
 
 module _ {M : Type 0} where
@@ -86,7 +82,7 @@ module _ {M : Type 0} where
 -- ---- the laws
 
 module _ {M : Type 0} (k : Meaning M) where
-  -- a refresh goes out a whole gap after the packet before it, and only if the message has a gap
+  -- a refresh goes out at least a gap after the packet before it, and only if the message has a gap
   abbrev pub GapAfter : List ℕ → M → ℕ → Type 0
   GapAfter [] m call = ⊥
   GapAfter (t ∷ ts) m call = (gap : ℕ) × (k.gap m ≡ Some gap) × (t + gap ≤ call)
@@ -123,19 +119,21 @@ module _ {M : Type 0} (k : Meaning M) where
   each_millisecond t room zero = []
   each_millisecond t room (suc n) = due t room ∷ each_millisecond (t + 1) room n
 
-  -- which packet goes out i milliseconds after an event, if any: copies after 0, 5 and 10, and then a refresh after each gap
+  -- a refresh, where whole gaps have passed since the last copy
   abbrev pub refresh_plan : Option ℕ → ℕ → Option ℕ
   refresh_plan None i = None
   refresh_plan (Some gap) i = cond (nat_lt 10 i && (i - 10) % gap == 0) (Some 3) None
 
+  -- which packet goes out i milliseconds after an event, if any: copies after 0, 5 and 10, and then a refresh after each gap
   abbrev pub plan : M → ℕ → Option ℕ
   plan m i = cond (i == 0) (Some 0) (cond (i == 5) (Some 1) (cond (i == 10) (Some 2) (refresh_plan (k.gap m) i)))
 
-  -- as what was done at the n milliseconds from i on, after an event
+  -- a planned packet, as what was done i milliseconds after the event
   abbrev pub goes : Event M → ℕ → Option ℕ → Did M
   goes e i None = neither
   goes e i (Some r) = made (e.time + i) (record { redundancy = r; time = cond (r == 3) (e.time + i) e.time; message = e.message })
 
+  -- the plan, as what was done at the n milliseconds from i on, after an event
   abbrev pub planned : Event M → ℕ → ℕ → List (Did M)
   planned e i zero = []
   planned e i (suc n) = goes e i (plan e.message i) ∷ planned e (i + 1) n
@@ -144,5 +142,6 @@ module _ {M : Type 0} (k : Meaning M) where
   -- as planned, for as long as times go.
   abbrev pub KeepsItsMoments : Type 0
   KeepsItsMoments =
-      (s : Stream M) (t : ℕ) (m : M) (room n : ℕ) → (on.event s t m).0 ≡ Ok tt → nat_le (k.len + 4) room ≡ true → is_time (t + n - 1) ≡ true
+      (s : Stream M) (t : ℕ) (m : M) (room n : ℕ) → (on.event s t m).0 ≡ Ok tt → nat_le (k.len + 4) room ≡ true
+      → is_time (t + n - 1) ≡ true
       → history k (on.event s t m).1 (each_millisecond t room n) ≡ planned (record { time = t; message = m }) 0 n

@@ -38,20 +38,25 @@ module _ {M : Type 0} where
   abbrev pub new_sender : Stream M
   new_sender = record { clock = 0; latest = None; copies = 0; refresh = None; refreshed = None }
 
+  -- later than what its packets were or may still be made for: the times of the latest event and of the last refresh
+  abbrev pub later_than_made : Stream M → ℕ → Bool
+  later_than_made s t = later_than_event s.latest t && later s.refreshed t
+
   -- ---- an event
 
   abbrev pub event_questions : Stream M → ℕ → List (Bool × Refusal)
   event_questions s t =
       (is_time t, Sending TimeOutOfRange)
       ∷ (nat_le s.clock t, Sending BehindClock)
-      ∷ (later_than_event s.latest t && later s.refreshed t, Sending NotLater)
+      ∷ (later_than_made s t, Sending NotLater)
       ∷ []
 
   -- it ends what was due of an earlier one
+  abbrev pub after_event : Stream M → Event M → Stream M
+  after_event s e = record { clock = e.time; latest = Some e; copies = 0; refresh = None; refreshed = s.refreshed }
+
   abbrev pub event : Stream M → ℕ → M → Result (Unit {0}) Refusal × Stream M
-  event s t m =
-      unless (first_no (event_questions s t)) s
-      (Ok tt, record { clock = t; latest = Some (record { time = t; message = m }); copies = 0; refresh = None; refreshed = s.refreshed })
+  event s t m = unless (first_no (event_questions s t)) s (Ok tt, after_event s (record { time = t; message = m }))
 
   -- ---- what is due
 
@@ -76,6 +81,9 @@ module _ {M : Type 0} where
   abbrev pub said_by : Packet M → Payload M
   said_by d = record { redundancy = d.redundancy; stamp = d.time % 16384; message = d.message }
 
+  abbrev pub after_nothing : Stream M → ℕ → Stream M
+  after_nothing s t = record { clock = t; latest = s.latest; copies = s.copies; refresh = s.refresh; refreshed = s.refreshed }
+
   module _ (k : Meaning M) where
     abbrev pub octets_of : Packet M → List ℕ
     octets_of d = written k (said_by d)
@@ -94,7 +102,7 @@ module _ {M : Type 0} where
     }
 
     abbrev pub sent : Stream M → ℕ → Option (Packet M) → Result (Option (List ℕ)) Refusal × Stream M
-    sent s t None = (Ok None, record { clock = t; latest = s.latest; copies = s.copies; refresh = s.refresh; refreshed = s.refreshed })
+    sent s t None = (Ok None, after_nothing s t)
     sent s t (Some d) = (Ok (Some (octets_of d)), after_packet s t d)
 
     abbrev pub due_questions : Stream M → ℕ → ℕ → List (Bool × Refusal)

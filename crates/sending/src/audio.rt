@@ -45,8 +45,10 @@ impl AudioSender {
         ensures after { self.new ≡ (audio profile.now self.old time place (length payload.now)).1 }
     {
         let time = Time::new(time).ok_or(SendingFault::TimeOutOfRange)?.get();
-        let entry = profile.entry(place).ok_or(SendingFault::NoEntry)?;
-        let uui = profile.label(place, time).ok_or(SendingFault::NoEntry)?;
+        let (entry, uui) = profile
+            .entry(place)
+            .zip(profile.label(place, time))
+            .ok_or(SendingFault::NoEntry)?;
         self.check(time, payload.len(), entry)?;
         self.free = time + u64::from(entry.packet_time);
         Ok(uui)

@@ -2,6 +2,5 @@
 #![tactic(auto)]
 
 pub mod audio;
-pub mod calls;
 pub mod event;
 pub mod sender;

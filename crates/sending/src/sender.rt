@@ -1,24 +1,37 @@
 // The sending half of a message stream.
-ghost use Rattle.std.specs.Prelude.{◌≡◌};
+ghost use Rattle.std.specs.Prelude.{◌≡◌, true, length};
+ghost use Rattle.refusal.specs.Questions.{first_no, allowed};
+ghost use Rattle.sending.specs.Sending.{new_sender, event_in_range, event_questions, event, due_of, due_questions, next_refresh, after_packet, due};
+ghost use Rattle.sending.specs.Runs.{SendsLawfully, KeepsItsMoments};
+ghost use Rattle.sending.specs.Answered.{counted, put};
 
-use crate::event::Event;
+use crate::event::{Event, Packet};
 use refusal::times::Time;
+use refusal::{Refusal, SendingFault};
 use std::marker::Model;
 use type3::bounded::Redundancy;
 use type3::kind::Kind;
+use type3::payload::payload_len;
+use type3::writing::write_payload;
+
+// An event has so many copies.
+const COPIES: u8 = 3;
+
+// They are so many milliseconds apart.
+const COPY_SPACING: u64 = 5;
 
 #[derive(Drop)]
 pub struct Sender<K: Kind> {
     // the time of the latest call that was not refused
-    pub(crate) clock: u64,
+    clock: u64,
     // the latest event, whose message is in force
-    pub(crate) latest: Option<Event<K::Message>>,
+    latest: Option<Event<K::Message>>,
     // the redundancy of the next packet of it: as many copies have gone out
-    pub(crate) next: Redundancy,
+    next: Redundancy,
     // when the next refresh is due
-    pub(crate) refresh: Option<u64>,
+    refresh: Option<u64>,
     // when the last refresh went out, of any event
-    pub(crate) refreshed: Option<Time>,
+    refreshed: Option<Time>,
 }
 
 impl<K: Kind> Model for Sender<K> {
@@ -30,4 +43,139 @@ impl<K: Kind> Model for Sender<K> {
     ghost view = { λ s. record { clock = s.clock; latest = s.latest; copies = s.next; refresh = s.refresh; refreshed = s.refreshed } };
 
     ghost invariant = { λ s. event_in_range s.latest ≡ true };
+}
+
+impl<K: Kind> Sender<K> {
+    pub fn new() -> Sender<K>
+        ensures { result ≡ new_sender }
+    {
+        Sender {
+            clock: 0,
+            latest: None,
+            next: Redundancy::first(),
+            refresh: None,
+            refreshed: None,
+        }
+    }
+
+    // An event at a time: it ends what was due of an earlier one, and its message is in force. Whatever is called on a new
+    // stream, what it sends is lawful.
+    #[tactic(auto, using(crate::proofs::Histories::sends_lawfully))]
+    pub fn event(&mut self, time: u64, message: K::Message) -> Result<(), Refusal>
+        ensures value { result ≡ (event self.old time message).0 }
+        ensures after { self.new ≡ (event self.old time message).1 }
+        ensures in_range { event_in_range self.new.latest ≡ true }
+        ensures lawful { SendsLawfully K.Kind.model }
+    {
+        // what the type keeps is known on every way out
+        let _ = &self.latest;
+        let time = Time::new(time).ok_or(SendingFault::TimeOutOfRange)?;
+        self.check_event(time)?;
+        self.clock = time.get();
+        self.latest = Some(Event { time, message });
+        self.next = Redundancy::first();
+        self.refresh = None;
+        Ok(())
+    }
+
+    fn check_event(&self, time: Time) -> Result<(), Refusal>
+        ensures { result ≡ allowed (first_no (event_questions self.now time)) }
+    {
+        if time.get() < self.clock {
+            return Err(SendingFault::BehindClock.into());
+        }
+        if let Some(event) = self.latest
+            && time <= event.time
+        {
+            return Err(SendingFault::NotLater.into());
+        }
+        if let Some(refreshed) = self.refreshed
+            && time <= refreshed
+        {
+            return Err(SendingFault::NotLater.into());
+        }
+        Ok(())
+    }
+
+    // What is due at a time: the first unsent packet whose moment has come is written to the start of `out`, and its length
+    // is answered. Called at every millisecond after an event, it sends each packet at its moment.
+    #[tactic(auto, using(crate::proofs::Milliseconds::keeps_its_moments))]
+    pub fn due(&mut self, time: u64, out: &mut [u8]) -> Result<Option<usize>, Refusal>
+        ensures value { result ≡ counted (due K.Kind.model self.old time (length out.old)).0 }
+        ensures after { self.new ≡ (due K.Kind.model self.old time (length out.old)).1 }
+        ensures octets { out.new ≡ put out.old (due K.Kind.model self.old time (length out.old)).0 }
+        ensures in_range { event_in_range self.new.latest ≡ true }
+        ensures moments { KeepsItsMoments K.Kind.model }
+    {
+        // what the type keeps is known on every way out
+        let _ = &self.latest;
+        let time = Time::new(time).ok_or(SendingFault::TimeOutOfRange)?;
+        self.check_due(time, out.len())?;
+        let Some(packet) = self.packet(time) else {
+            self.clock = time.get();
+            return Ok(None);
+        };
+        let count = write_payload::<K>(packet.payload(), out)?;
+        self.sent(time, &packet);
+        Ok(Some(count))
+    }
+
+    fn check_due(&self, time: Time, room: usize) -> Result<(), Refusal>
+        ensures { result ≡ allowed (first_no (due_questions K.Kind.model self.now time room)) }
+    {
+        if time.get() < self.clock {
+            return Err(SendingFault::BehindClock.into());
+        }
+        if room < payload_len::<K>() {
+            return Err(SendingFault::BufferTooShort.into());
+        }
+        Ok(())
+    }
+
+    // The first unsent packet whose moment has come.
+    fn packet(&self, time: Time) -> Option<Packet<K::Message>>
+        ensures { result ≡ due_of self.now time }
+    {
+        let event = self.latest?;
+        let copies = self.next.get();
+        let (moment, made) = if copies < COPIES {
+            (
+                event.time.get() + COPY_SPACING * u64::from(copies),
+                event.time,
+            )
+        } else {
+            (self.refresh?, time)
+        };
+        if moment <= time.get() {
+            Some(Packet {
+                redundancy: self.next,
+                time: made,
+                message: event.message,
+            })
+        } else {
+            None
+        }
+    }
+
+    // A packet has gone out.
+    fn sent(&mut self, time: Time, packet: &Packet<K::Message>)
+        ensures { self.new ≡ after_packet K.Kind.model self.old time packet.now }
+    {
+        let redundancy = packet.redundancy.get();
+        self.clock = time.get();
+        self.next = packet.redundancy.next();
+        if redundancy >= 2 {
+            self.refresh = Self::next_refresh(time, packet.message);
+        }
+        if packet.redundancy.is_refresh() {
+            self.refreshed = Some(time);
+        }
+    }
+
+    // When the refresh after a packet is due.
+    fn next_refresh(time: Time, message: K::Message) -> Option<u64>
+        ensures { result ≡ next_refresh K.Kind.model time message }
+    {
+        K::gap(message).map(|gap| time.get() + u64::from(gap))
+    }
 }
