@@ -32,13 +32,13 @@ class Maker:
     """Makes one list, call after call."""
 
     def __init__(self, rng, profile, wild=True):
+        """A wild list has odd calls, and a network that breaks its rule."""
         self.rng, self.wild = rng, wild
         self.ends = Ends(profile)
         self.profile = profile
         # the far clock, less the near one
         self.apart = rng.choice([0, 0, -900, 5000])
         self.now = rng.choice([0, 1000, 1000, 16000, 50000])
-        self.event_after = {}
 
     def rarely(self, of=12):
         return self.wild and self.rng.randrange(of) == 0

@@ -1,7 +1,8 @@
 #!/usr/bin/python3
-"""Random lists of calls on two ends with their answers, made from the rules alone and not by the programs.
+"""Random lists of calls on two ends, and lists of entries that do not load, each with its answers: from the rules alone, not by the
+programs.
 
-Writes crates/network/specs/Samples.antt. No list hangs on chance: the seed is fixed.
+Writes specs/Samples.antt and proofs/Sampled.antt of crates/network. The seed is fixed.
 """
 
 import random
@@ -15,8 +16,8 @@ NETWORK = CRATES / "network"
 CALLS = range(18, 26)
 
 HEAD = """\
--- Made by tests/law/make.py: random lists of calls on two ends, with the answers of an oracle that was written from docs/ alone.
--- Assumes nothing.
+-- Made by tests/law/make.py: random lists of calls on two ends, and of entries that do not load, with the answers of an oracle that was
+-- written from docs/ alone. Assumes nothing.
 use Rattle.std.specs.Prelude.{◌≡◌, ℕ, true, false, List, [], ◌∷◌, map, replicate, Some, None, Ok, Err, Option, refl}
 use Rattle.refusal.specs.declared.Refusal.{Refusal}
 use Rattle.refusal.specs.declared.Refusal.TheVariants.{Profile, Sending, Arrival, Type3, Kind, Placing}
@@ -38,7 +39,7 @@ use Rattle.placing.specs.declared.receiver.Class.TheVariants.{Event, Confirmed, 
 use Rattle.trunk.specs.declared.answer.Which.TheVariants as which
 use Rattle.trunk.specs.declared.answer.Arrived.TheVariants as on
 use Rattle.network.specs.Runs.{Moment, audio, event, due, arrive}
-use Rattle.network.specs.Witness.{digit, signal, near, far, audio_news, digit_news, bits_news, Answered}
+use Rattle.network.specs.Notation.{digit, signal, near, far, audio_news, digit_news, bits_news, Answered}
 
 -- index, format, first and last UUI, length, packet time and interval
 abbrev pub entry : Option ℕ → ℕ → ℕ → ℕ → ℕ → ℕ → ℕ → Entry

@@ -72,6 +72,11 @@ def parts(broken):
 
 
 def example(breaks, fails, answers, *steps, profile=EXAMPLES["A"], kinds=KINDS, far=None, least=True):
+    """The calls are answered so, and break these premises and promises; with any one call left out they do not break both.
+
+    No premise is named where the broken one is not asked: whether a profile loads, and whether both ends have one and were just
+    started.
+    """
     ends = done(ends_of(profile, kinds, far), steps)
     lines = [shown(m.answer) for m in ends.history]
     assert lines == answers, (breaks, lines)

@@ -5,12 +5,12 @@ use examples::hex::Hex;
 use kinds::cas::{Cas, CasBits};
 use kinds::digit::Digit;
 use kinds::digits::Digits;
+use placing::stream::Told;
 use profile::examples::Example;
-use refusal::Refusal;
-use trunk::answer::Which;
+use trunk::answer::{Arrived, Which};
 use trunk::service::InService;
 use trunk::set_up::SetUp;
-use type3::payload::Either;
+use type3::payload::{Either, LONGEST, TYPE_3_UUI};
 
 #[cfg(test)]
 mod tests;
@@ -18,25 +18,30 @@ mod tests;
 // In dBm0.
 const LEVEL: i8 = -10;
 
+const BITS: CasBits = CasBits {
+    a: true,
+    b: false,
+    c: false,
+    d: false,
+};
+
 fn main(rt: HostRuntime) -> anyhow::Result<()> {
     let heap = rt.alloc();
     let mut early = SetUp::new(heap)?;
     early.load(heap, Example::B.entries())?;
     let mut busy = early.start::<Digits, Cas>();
     busy.event(1000, Either::First(Digit::of_key('5', LEVEL)?))?;
-    tell_due(&rt, &mut busy, 1000)?;
+    for time in 1000..1020 {
+        tell_due(&rt, &mut busy, time)?;
+    }
+    let label = busy.audio(1005, 0, &[0xd5; 40])?;
+    println!(rt; "audio with UUI {label}")?;
+    tell_arrival(&rt, &mut busy, 1003, &[0x00, 0x00, 0x0a, 0x05, 0x0a, 0xeb])?;
+    tell_arrival(&rt, &mut busy, 1004, &[0x00, 0x00, 0x0a, 0x05, 0x0a, 0xea])?;
     let mut end = busy.stop();
     end.load(heap, Example::C.entries())?;
     let mut end = end.start::<Digits, Cas>();
-    end.event(
-        0,
-        Either::Second(CasBits {
-            a: true,
-            b: false,
-            c: false,
-            d: false,
-        }),
-    )?;
+    end.event(0, Either::Second(BITS))?;
     tell_due(&rt, &mut end, 0)?;
     end.stop();
     Ok(())
@@ -45,10 +50,26 @@ fn main(rt: HostRuntime) -> anyhow::Result<()> {
 // What is due of each kind at a time.
 fn tell_due(rt: &HostRuntime, end: &mut InService<Digits, Cas>, time: u64) -> anyhow::Result<()> {
     for which in [Which::First, Which::Second] {
-        let mut octets = [0; 12];
+        let mut octets = [0; LONGEST];
         if let Some(count) = end.due(which, time, &mut octets)? {
             println!(rt; "due at {time}: {}", Hex(&octets[..count]))?;
         }
+    }
+    Ok(())
+}
+
+// A type 3 packet arrives.
+fn tell_arrival(
+    rt: &HostRuntime,
+    end: &mut InService<Digits, Cas>,
+    time: u64,
+    octets: &[u8],
+) -> anyhow::Result<()> {
+    match end.arrive(time, TYPE_3_UUI, octets) {
+        Ok(Arrived::First(Told::News(news))) => println!(rt; "digit {}", news.message.code())?,
+        Ok(Arrived::Second(Told::News(news))) => println!(rt; "bits {}", news.message.octet())?,
+        Ok(_) => println!(rt; "no news")?,
+        Err(refusal) => println!(rt; "{refusal}")?,
     }
     Ok(())
 }

@@ -1,5 +1,5 @@
 -- What an arrival is answered, and what is known of its end after it. Assumes nothing.
-use Rattle.std.proofs.Common.{◌≡◌, ℕ, ◌≤◌, true, false, cond, ◌&&◌, ◌||◌, eqb, leb, List, [], ◌∷◌, ◌++◌, length, is_some, Some, None, Err, Option, Result, sym, refl, ap, ◌∙◌, subst, arith, not}
+use Rattle.std.proofs.Common.{◌≡◌, ℕ, ◌≤◌, true, false, cond, ◌&&◌, ◌||◌, eqb, leb, List, [], ◌∷◌, ◌++◌, length, bytes_eq, is_some, Some, None, Err, Option, Result, sym, refl, ap, ◌∙◌, subst, arith, not}
 use Rattle.std.proofs.lemmas.Bool.{and_parts, or_left, or_right, not-true, eqb-true, le-leb, ne_eqb}
 use Rattle.std.proofs.lemmas.Option.{none-some}
 use Rattle.refusal.specs.Questions.{is_time}
@@ -20,16 +20,16 @@ use Rattle.trunk.specs.declared.answer.Which.{Which}
 use Rattle.trunk.specs.declared.answer.Arrived.{Arrived}
 use Rattle.trunk.specs.End.{End, arrive_audio, arrive_read, arrive}
 use Rattle.network.specs.declared.side.Side.{Side}
-use Rattle.network.specs.Names.{other, kind_of, audio, same_octets}
+use Rattle.network.specs.Names.{other, kind_of, audio}
 use Rattle.network.specs.Runs.{Moment}
 use Rattle.network.specs.Packets as packets
-use Rattle.network.specs.Packets.{Content, entry, message, Packet, Named, stream_of, packet_from, arrivals}
-use Rattle.network.specs.Law.{sound, original, kept, spoiled, foreign, copied, carried, later_than_all, intact}
+use Rattle.network.specs.Packets.{Content, entry, message, Packet, Named, stream_of, packet_from, news_of, arrivals}
+use Rattle.network.specs.Law.{sound, original, kept, spoiled, foreign, copied, network_rule, later_than_all, intact}
 use Rattle.network.proofs.Frame.{Right}
 use Rattle.network.proofs.Longer.{sounds_stay}
 use Rattle.network.proofs.Sends.{Sends}
 use Rattle.network.proofs.Audios.{AudioMade, low}
-use Rattle.network.proofs.Ins.{Come, news_of, arriving, arrive_moment}
+use Rattle.network.proofs.Ins.{Come, arriving, arrive_moment}
 use Rattle.network.proofs.Lanes.{inj, out, meaning, lawful}
 use Rattle.network.proofs.Heard.{Heard, heard_stays}
 
@@ -71,16 +71,16 @@ module _ {P Q : Type 0} {p : Meaning P} {q : Meaning Q} {es : List Entry} (ok : 
   kept_is x k = let e = and_parts (eqb uui x.uui) (eqb (length o) (length x.octets)) k in (eqb-true uui x.uui e.0, eqb-true (length o) (length x.octets) e.1)
 
   pub intact_is : (x : Packet P Q) → intact x it ≡ true → (uui ≡ x.uui) × (length o ≡ length x.octets)
-  intact_is x k = kept_is x (and_parts (kept x it) (not (eqb uui 24) || same_octets x.octets o) k).0
+  intact_is x k = kept_is x (and_parts (kept x it) (not (eqb uui 24) || bytes_eq x.octets o) k).0
 
   -- an arrival that is not sound, and is refused
   refused_fine : (f : Refusal) → sound h it ≡ None → Fine (Err f, s)
   refused_fine f none = record {
     right = record { exactly = ap (later_than_all h) (sym none); origin = λ n e. absurd (none-some n e) };
-    goes_on = heard_stays (arrive_moment a t uui o c (Err f)) (λ n. sounds_stay h (arrive_moment a t uui o c (Err f)) a n (rw none refl)) held.heard s.free s.first_out s.second_out;
+    goes_on = heard_stays (arrive_moment a t uui o c (Err f)) (λ n. sounds_stay h (arrive_moment a t uui o c (Err f)) a n (rw none refl)) held.heard s.audio_out s.first_out s.second_out;
   }
 
-  module _ (rule : carried h it ≡ true) where
+  module _ (rule : network_rule h it ≡ true) where
     timed : (is_time t ≡ true) × Come a h t
     timed = and_parts (is_time t) _ (and_parts _ (copied it (original h it) || foreign it) rule).0
 

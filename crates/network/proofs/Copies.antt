@@ -1,8 +1,9 @@
 -- A sound copy of a packet: what it is answered, and what is known of its end after it. Assumes nothing.
-use Rattle.std.proofs.Common.{◌≡◌, ℕ, ◌%◌, ◌<◌, ◌≤◌, Bool, true, false, cond, not, ◌||◌, eqb, List, [], ◌∷◌, ◌++◌, length, Some, None, Ok, Err, Option, Result, sym, refl, ap, ◌∙◌, subst, arith}
+use Rattle.std.proofs.Common.{◌≡◌, ℕ, ◌%◌, ◌<◌, ◌≤◌, Bool, true, false, cond, not, ◌||◌, eqb, List, [], ◌∷◌, ◌++◌, length, bytes_eq, Some, None, Ok, Err, Option, Result, sym, refl, ap, ◌∙◌, subst, arith}
 use Rattle.std.proofs.lemmas.Bool.{and_parts}
 use Rattle.std.proofs.lemmas.Option.{same_Some}
 use Rattle.std.proofs.lemmas.Grind.{common_steps}
+use Rattle.std.proofs.lemmas.Slice.Eq.{bytes_eq-Decides}
 use Rattle.refusal.specs.declared.Refusal.{Refusal}
 use Rattle.type3.specs.Kinds.{Meaning}
 use Rattle.type3.specs.declared.payload.Payload.{Payload}
@@ -22,14 +23,13 @@ use Rattle.trunk.specs.declared.answer.Which.{Which}
 use Rattle.trunk.specs.declared.answer.Arrived.{Arrived}
 use Rattle.trunk.specs.End.{End, clock_after, with_ins, audio_answer, arrive}
 use Rattle.network.specs.declared.side.Side.{Side}
-use Rattle.network.specs.Names.{other, audio, messages, same_octets}
+use Rattle.network.specs.Names.{other, audio, messages}
 use Rattle.network.specs.Runs.{Moment}
-use Rattle.network.specs.Packets.{entry, message, Packet, Named, Arrival, stream_of, packet_from}
-use Rattle.network.specs.Law.{Sound, sounds, kept, intact, carried, aged, span}
-use Rattle.network.proofs.Sameness.{same_octets_are}
+use Rattle.network.specs.Packets.{entry, message, Packet, Named, Arrival, stream_of, packet_from, news_of}
+use Rattle.network.specs.Law.{Sound, sounds, kept, intact, network_rule, age_rule, span}
 use Rattle.network.proofs.Sends.{packet}
 use Rattle.network.proofs.Audios.{AudioMade, low, finds, label_tells}
-use Rattle.network.proofs.Ins.{Come, come_before, come_now, made_for, on_stays, news_of, naming, arriving, arrive_moment, arrives, OneMore, one_more}
+use Rattle.network.proofs.Ins.{Come, come_before, come_now, made_for, on_stays, naming, arriving, arrive_moment, OneMore, one_more}
 use Rattle.network.proofs.Lanes.{Of, inj, kind_is, into, with_in, lane_by_lane, on_lane, meaning, read_lane, received, arrive_lane, news_lane, placed_by, force_by}
 use Rattle.network.proofs.Heard.{uui_of, stamp, Lane, lane_stays}
 use Rattle.network.proofs.Arrives.{Agreed, HeldAt, Known, Fine, intact_is, come, type3_is, audio_is_asked}
@@ -48,10 +48,10 @@ module _ {P Q : Type 0} {p : Meaning P} {q : Meaning Q} {es : List Entry} (ok : 
 
   -- the clock does not pass a time by which all came
   clock_fine : {X : Type 0} (r : Result (Arrived P Q) Refusal) (x : Result X Refusal) (u : ℕ) → Come a (h ++ (arrive_moment a t uui o i r ∷ [])) u → clock_after s t x ≤ u
-  clock_fine r (Ok x) u e = come_now h (arrive_moment a t uui o i r) (it (news_of r)) (arrives a t uui o i r) u e
+  clock_fine r (Ok x) u e = come_now h (arrive_moment a t uui o i r) (it (news_of r)) refl u e
   clock_fine r (Err f) u e = held.heard.clock u (come_before h (arrive_moment a t uui o i r) a u e)
 
-  module _ (rule : carried h (it None) ≡ true) (n : Option (Named P Q)) (ages : aged es h (it n) ≡ true) where
+  module _ (rule : network_rule h (it None) ≡ true) (n : Option (Named P Q)) (ages : age_rule es h (it n) ≡ true) where
     -- ---- of a packet of a message
 
     module _ (w : Which) (d : Due (Of P Q w)) (few : d.redundancy < 4) (in_time : d.time ≤ 1099511627775) where
@@ -70,9 +70,9 @@ module _ {P Q : Type 0} {p : Meaning P} {q : Meaning Q} {es : List Entry} (ok : 
       module _ (made : packet_from (other a) h i ≡ Some pk) (whole : intact pk (it None) ≡ true) where
         same : (eqb uui 24 ≡ true) × (o ≡ octets_of k d)
         same =
-            let d1 = and_parts (kept pk (it None)) (not (eqb uui 24) || same_octets pk.octets o) whole in
+            let d1 = and_parts (kept pk (it None)) (not (eqb uui 24) || bytes_eq pk.octets o) whole in
             let u = (and_parts (eqb uui 24) (eqb (length o) (length pk.octets)) d1.0).0 in
-            (u, sym (same_octets_are pk.octets o (rw u at d1.1)))
+            (u, sym ((bytes_eq-Decides pk.octets o).0 (rw u at d1.1)))
 
         abbrev told_now : Result (Told Moved) Refusal
         told_now = told 16384 1 before.placed (stamp pk) t

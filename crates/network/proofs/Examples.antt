@@ -8,8 +8,9 @@ use Rattle.profile.specs.declared.entry.Entry.{Entry}
 use Rattle.network.specs.declared.call.Answer.{Answer}
 use Rattle.network.specs.Runs.{Turn, Ends, begun, after, history}
 use Rattle.network.specs.Answers.{said_at}
+use Rattle.network.specs.Notation.{calls_of}
 use Rattle.network.specs.Rows.{RowsHold}
-use Rattle.network.specs.Witness.{profile, witness, calls_of, ends, PremisesHold, SortsOccur, InForce, LawIsNotEmpty}
+use Rattle.network.specs.Witness.{profile, witness, ends, PremisesHold, SortsOccur, InForce, LawIsNotEmpty}
 
 premises_hold : PremisesHold
 premises_hold = record { message_types_differ = λ e. cc; profile_loads = refl; network_keeps_its_rule = refl; ages_keep_theirs = refl }
@@ -20,7 +21,7 @@ sorts_occur = record {
   arrival_8_is_spoiled = refl;
   arrival_9_is_foreign = refl;
   arrival_11_is_a_sound_copy = refl;
-  arrival_18_is_of_18510 = refl;
+  arrival_18_is_made_for_18510 = refl;
   later_than_all_before = refl;
 }
 
@@ -58,18 +59,23 @@ rows_hold = record {
   example_c_loads = refl;
   example_c_spans_20_ms = refl;
   mixed_widths_are_refused_with_6_at_place_3 = refl;
-  under_a_entry_2_labels_85_ms_with_1 = refl;
-  under_b_entry_3_is_the_one_for_8_to_15_and_40_octets = refl;
-  under_b_entry_3_labels_85_ms_with_9 = refl;
-  under_a_entry_2_refuses_12_ms_with_13 = refl;
+  under_a_place_2_labels_85_ms_with_1 = refl;
+  under_b_uui_8_and_40_octets_name_place_3 = refl;
+  under_b_place_3_labels_85_ms_with_9 = refl;
+  under_a_place_2_refuses_12_ms_with_13 = refl;
   cas_all_zero_is_written = refl;
   cas_all_zero_is_read = refl;
+  highest_is_written = refl;
+  highest_is_read = refl;
   dtmf_0_at_level_0_is_written = refl;
   dtmf_0_at_level_0_is_read = refl;
   dtmf_5_at_level_10_is_written = refl;
   dtmf_5_at_level_10_is_read = refl;
   a_changed_bit_is_refused_with_24 = refl;
+  four_changed_bits_are_read_as_another_message = refl;
+  zeros_are_refused_with_25 = refl;
   an_event_at_1000_is_sent_so = refl;
+  late_calls_are_answered_so = refl;
   stamps_16380_then_4_in_10_ms_are_8_apart = refl;
   stamps_16380_then_4_in_20_s_are_16392_apart = refl;
   equal_labels_39_ms_apart_are_a_repeat = refl;

@@ -1,13 +1,13 @@
 -- The event with the latest time not after a time, in a list of events that grows. Assumes nothing.
-use Rattle.std.proofs.Common.{◌≡◌, ℕ, suc, ◌<◌, ◌≤◌, true, ltb, leb, List, [], ◌∷◌, ◌++◌, Some, Option, refl, ◌∙◌, append-nil, arith}
+use Rattle.std.proofs.Common.{◌≡◌, ℕ, suc, ◌<◌, ◌≤◌, true, ltb, leb, List, [], ◌∷◌, ◌++◌, Some, refl, ◌∙◌, append-nil, arith}
 use Rattle.std.proofs.lemmas.Bool.{lt-ltb, lt-leb}
 use Rattle.std.proofs.lemmas.Bool.Decides.{nat_tests}
 use Rattle.std.proofs.lemmas.Grind.{common_steps}
-use Rattle.std.specs.Option.{option_map}
 use Rattle.sending.specs.declared.event.Event.{Event}
 use Rattle.placing.specs.Lists.{all, those, greatest}
 use Rattle.placing.proofs.Leader.{all_below}
 use Rattle.placing.proofs.Snoc.{those_append}
+use Rattle.network.specs.Packets.{had_of}
 
 module _ {X : Type 0} where
   abbrev time : Event X → ℕ
@@ -16,10 +16,6 @@ module _ {X : Type 0} where
   those_all : (es : List (Event X)) (t : ℕ) → all (λ e. ltb (time e) (suc t)) es ≡ true → those (λ e. leb (time e) t) es ≡ es
   those_all [] t h = refl
   those_all (e ∷ es) t h = grind (arith, nat_tests, common_steps, those_all es t)
-
-  -- what was had at a time, of these events
-  abbrev pub had_of : ℕ → List (Event X) → Option X
-  had_of t es = option_map (λ e. e.message) (greatest time (those (λ e. leb (time e) t) es))
 
   -- the latest of all, at its time and after
   pub had_latest : (es : List (Event X)) (y : Event X) (t : ℕ) → greatest time es ≡ Some y → y.time ≤ t → had_of t es ≡ Some y.message

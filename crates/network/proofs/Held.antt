@@ -19,19 +19,19 @@ use Rattle.network.specs.declared.side.Side.{Side}
 use Rattle.network.specs.Names.{other, same_side, same_kind, kind_of, Stream, messages, same_stream}
 use Rattle.network.specs.Names as name
 use Rattle.network.specs.Runs.{Call, audio, event, due, arrive, AnswerTo, Moment, Ends, end_at}
-use Rattle.network.specs.Packets.{entry, Packet, Arrival, stream_of, accepted, events, made, made_at, packet_from, arrival_by, arrival}
+use Rattle.network.specs.Packets.{entry, Packet, Arrival, stream_of, accepted, events, made, made_at, packet_from, news_of, arrival_by, arrival}
 use Rattle.network.specs.Law.{sound, sounds, sound_if}
 use Rattle.network.proofs.Sameness.{itself, kind_itself}
 use Rattle.network.proofs.Longer.{unmade, old, made_now, whence, of_kind, events_stay, sounds_stay, on_it}
 use Rattle.network.proofs.Sends.{Sends, new_sends, idle}
 use Rattle.network.proofs.Outs.{brings_none, event_on, due_on, due_kind}
 use Rattle.network.proofs.Audios.{AudioMade, audio_made}
-use Rattle.network.proofs.Ins.{news_of, arriving, arrives}
+use Rattle.network.proofs.Ins.{arriving}
 use Rattle.network.proofs.Lanes.{Of, inj, kind_is, lane_by_lane, out, with_out, meaning}
 use Rattle.network.proofs.Heard.{heard_stays, new_heard}
 use Rattle.network.proofs.Arrives.{Sent, HeldAt}
 
--- ---- a call at one side leaves the other
+-- ---- a call at one side leaves the other as it was
 
 module _ {P Q : Type 0} where
   -- no sound arrival is at the other side
@@ -43,7 +43,7 @@ module _ {P Q : Type 0} where
   -- nor does a call there bring one
   none_by : (b : Side) (n : Stream) (h : List (Moment P Q)) (m : Moment P Q) (side : Side) (c : Call P Q) (r : AnswerTo c) → same_side b side ≡ false
       → those (on_it h m b n) (add (option_flatten (option_map (sound h) (arrival_by side c r))) []) ≡ []
-  none_by b n h m side (arrive t u o i) r f = rw (arrives side t u o i r) (none_if b n h m (arriving side t u o i (news_of r)) (packet_from (other side) h i) f)
+  none_by b n h m side (arrive t u o i) r f = none_if b n h m (arriving side t u o i (news_of r)) (packet_from (other side) h i) f
   none_by b n h m side c r f = refl
 
 module _ {P Q : Type 0} (p : Meaning P) (q : Meaning Q) (es : List Entry) where
@@ -70,7 +70,7 @@ module _ {P Q : Type 0} {p : Meaning P} {q : Meaning Q} {es : List Entry} where
       → (i : Option ℕ) (x : Packet P Q) → packet_from b (h ++ (m ∷ [])) i ≡ Some x → stream_of x.content ≡ name.audio → AudioMade es x
   more_audio {h} m {b} sent now i x e f = elim (whence h m b i x e) [ old is ↦ sent.of_audio i x is f | made_now is ↦ now x is f ]
 
-  -- a call after which the same is received, by the packet that it makes and the streams that it leaves
+  -- a call after which the same is received, by the packet that it makes and the streams after it
   held_by : {h : List (Moment P Q)} (m : Moment P Q) {b : Side} {s : End P Q} → HeldAt p q es h b s → ((n : Stream) → sounds b n (h ++ (m ∷ [])) ≡ sounds b n h)
       → (free : ℕ) (first : sending.Stream P) (second : sending.Stream Q)
       → ((x : Packet P Q) → made_at b h (Some m) ≡ Some x → stream_of x.content ≡ name.audio → AudioMade es x)
@@ -84,37 +84,37 @@ module _ {P Q : Type 0} {p : Meaning P} {q : Meaning Q} {es : List Entry} where
 
   pub held_away : {h : List (Moment P Q)} (m : Moment P Q) {b : Side} {s : End P Q} → same_side b m.side ≡ false → HeldAt p q es h b s → HeldAt p q es (h ++ (m ∷ [])) b s
   held_away {h} m {b} {s} away x =
-      held_by m x (λ n. sounds_stay h m b n (none_by b n h m m.side m.call m.answer away)) s.free s.first_out s.second_out (λ y e f. absurd (none-some y (rw away at e)))
+      held_by m x (λ n. sounds_stay h m b n (none_by b n h m m.side m.call m.answer away)) s.audio_out s.first_out s.second_out (λ y e f. absurd (none-some y (rw away at e)))
       (λ w. idle m (x.sent.of_kinds w) (events_stay h m b w (rw away refl)) (λ y e f. none-some y (rw away at e)))
 
   -- ---- the side that is called: audio, event and due
 
   module _ {h : List (Moment P Q)} {a : Side} {s : End P Q} (x : HeldAt p q es h a s) where
-    -- a call that is no arrival leaves what is received
+    -- a call that is no arrival leaves what is received as it was
     hears_on : (m : Moment P Q) → arrival m ≡ None → (n : Stream) → sounds a n (h ++ (m ∷ [])) ≡ sounds a n h
     hears_on m e n = sounds_stay h m a n (rw e refl)
 
-    -- a call on the stream of a kind leaves that of the other kind
+    -- a call on the stream of a kind leaves that of the other kind as it was
     on_lane : (m : Moment P Q) → arrival m ≡ None → (w : Which) (r : sending.Stream (Of P Q w))
         → ((y : Packet P Q) → made_at a h (Some m) ≡ Some y → stream_of y.content ≡ messages w)
         → ((v : Which) → same_kind w v ≡ false → events a v (h ++ (m ∷ [])) ≡ events a v h)
         → Sends (meaning p q w) (inj P Q w) a w (h ++ (m ∷ [])) r → HeldAt p q es (h ++ (m ∷ [])) a (with_out w s r)
     on_lane m e w r stream others new =
-        held_by m x (hears_on m e) s.free _ _ (λ y i f. absurd (true≢false (ap (same_stream name.audio) (sym f ∙ stream y i))))
+        held_by m x (hears_on m e) s.audio_out _ _ (λ y i f. absurd (true≢false (ap (same_stream name.audio) (sym f ∙ stream y i))))
         (lane_by_lane sending.Stream w r s.first_out s.second_out (λ v. Sends (meaning p q v) (inj P Q v) a v (h ++ (m ∷ []))) new
         (λ v f. idle m (x.sent.of_kinds v) (others v f)
         (λ y i g. true≢false (sym (kind_itself w) ∙ ap (same_stream (messages w)) (sym (stream y i) ∙ g) ∙ f))))
 
     module _ (t place : ℕ) (o : List ℕ) where
       abbrev by_audio : Result ℕ Refusal × ℕ
-      by_audio = sending-audio.audio s.profile s.free t place (length o)
+      by_audio = sending-audio.audio s.profile s.audio_out t place (length o)
 
       abbrev ma : Moment P Q
       ma = record { side = a; call = audio t place o; answer = by_audio.0 }
 
       made_audio : (y : Packet P Q) (r : Result ℕ Refusal) → by_audio.0 ≡ r → made h a (audio t place o) r ≡ Some y → (stream_of y.content ≡ name.audio) × AudioMade es y
       made_audio y (Ok u) is e = subst (λ z. (stream_of z.content ≡ name.audio) × AudioMade es z) (same_Some (record { time = t; content = entry place; uui = u; octets = o }) y e)
-          (refl, audio_made es s.free t place u o (rw x.profile_is at is))
+          (refl, audio_made es s.audio_out t place u o (rw x.profile_is at is))
       made_audio y (Err f) is e = absurd (none-some y e)
 
       pub held_audio : HeldAt p q es (h ++ (ma ∷ [])) a (with_outs s by_audio.1 s.first_out s.second_out)

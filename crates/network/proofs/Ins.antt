@@ -2,7 +2,6 @@
 use Rattle.std.proofs.Common.{◌≡◌, ℕ, ◌≤◌, Bool, true, false, cond, ◌&&◌, leb, List, [], ◌∷◌, ◌++◌, is_some, Some, None, Ok, Err, Option, Result, sym, refl, ap, ◌∙◌, subst, arith}
 use Rattle.std.proofs.lemmas.Grind.{common_steps}
 use Rattle.std.proofs.lemmas.Bool.{leb-true, ltb-true, and_parts}
-use Rattle.std.specs.Option.{option_map, option_flatten}
 use Rattle.std.proofs.lemmas.Option.{none-some, same_Some}
 use Rattle.refusal.specs.declared.Refusal.{Refusal}
 use Rattle.profile.specs.declared.entry.Entry.{Entry}
@@ -18,8 +17,8 @@ use Rattle.trunk.specs.declared.answer.Arrived.{Arrived}
 use Rattle.network.specs.declared.side.Side.{Side}
 use Rattle.network.specs.Names.{other, same_side, Stream, same_stream}
 use Rattle.network.specs.Runs.{arrive, Moment}
-use Rattle.network.specs.Packets.{Content, Packet, Named, Arrival, stream_of, packet_from, named, arrival, arrivals}
-use Rattle.network.specs.Law.{Sound, sound, sounds, intact, span, aged, latest_news, Since, Origin}
+use Rattle.network.specs.Packets.{Content, Packet, Named, Arrival, stream_of, packet_from, news_of, arrival, arrivals}
+use Rattle.network.specs.Law.{Sound, sound, sounds, intact, span, age_rule, latest_news, Since, Origin}
 use Rattle.network.proofs.Sameness.{itself, stream_itself}
 use Rattle.network.proofs.Frame.{Right}
 use Rattle.network.proofs.Longer.{packet_stays, arrivals_snoc, sound_now, on_it, sounds_stay, sounds_more}
@@ -43,7 +42,7 @@ module _ {P Q : Type 0} where
   abbrev pub Come : Side → List (Moment P Q) → ℕ → Type 0
   Come a h t = all (λ x. leb x.time t) (arrivals a h) ≡ true
 
-  -- a time by which all came: it is one before the last call too, and of the arrival that this brought
+  -- If all came by a time, the last call included, so did all before it, and the arrival that it brought, if any.
   come_parts : (h : List (Moment P Q)) (m : Moment P Q) (a : Side) (t : ℕ) → Come a (h ++ (m ∷ [])) t
       → Come a h t × (all (λ x. leb x.time t) (those (λ x. same_side a x.side) (add (arrival m) [])) ≡ true)
   come_parts h m a t e = and_parts (all (λ x. leb x.time t) (arrivals a h)) _ (rw (arrivals_snoc h m a, all_append) at e)
@@ -80,11 +79,6 @@ module _ {P Q : Type 0} where
 
   -- ---- answers
 
-  -- what an answer names, if it is news
-  abbrev pub news_of : Result (Arrived P Q) Refusal → Option (Named P Q)
-  news_of (Ok x) = named x
-  news_of (Err f) = None
-
   -- what news of a packet names
   abbrev pub naming : Content P Q → Result (Told Moved) Refusal → Option (Named P Q)
   naming c (Ok (News n)) = Some (record { content = c; elapsed = n.elapsed })
@@ -104,13 +98,9 @@ module _ {P Q : Type 0} where
     abbrev pub arrive_moment : Result (Arrived P Q) Refusal → Moment P Q
     arrive_moment r = record { side = a; call = arrive t uui o c; answer = r }
 
-    pub arrives : (r : Result (Arrived P Q) Refusal) → arrival (arrive_moment r) ≡ Some (arriving (news_of r))
-    arrives (Ok x) = refl
-    arrives (Err f) = refl
-
   -- ---- one sound arrival
 
-  -- The call m brings the sound arrival z on a stream: what is told of it is right, it leaves the other streams, and on its own it is
+  -- The call m brings the sound arrival z on a stream: what is told of it is right, it leaves the other streams as they were, and on its own it is
   -- the one made for the latest time where it is news.
   pub record OneMore (label : Packet P Q → ℕ) (turn unit : ℕ) (h : List (Moment P Q)) (a : Side) (stream : Stream) (placed : Option Placed) (news : Bool) (m : Moment P Q)
       (z : Sound P Q) : Type 0 where
@@ -126,7 +116,7 @@ module _ {P Q : Type 0} where
 
     module _ (made : packet_from (other a) h i ≡ Some pk) (whole : intact pk (arriving a t uui o i None) ≡ true) (stream_is : stream_of pk.content ≡ stream)
         (in_time : pk.time ≤ 1099511627775) (tells : Tells turn unit (point label (copying None))) (span_is : span es pk.content ≡ turn) (in_order : Come a h t)
-        (n : Option (Named P Q)) (ages : aged es h (arriving a t uui o i n) ≡ true) where
+        (n : Option (Named P Q)) (ages : age_rule es h (arriving a t uui o i n) ≡ true) where
       is_sound : (n : Option (Named P Q)) → sound h (arriving a t uui o i n) ≡ Some (copying n)
       is_sound n = rw (made, whole) refl
 
@@ -157,7 +147,7 @@ module _ {P Q : Type 0} where
         flag = ap is_some names ∙ some_naming pk.content answer
 
         is_now : sound_now h m ≡ Some z
-        is_now = ap (λ x. option_flatten (option_map (sound h) x)) (arrives a t uui o i r) ∙ is_sound (news_of r)
+        is_now = is_sound (news_of r)
 
         on_which : (n : Stream) → on_it h m a n z ≡ same_stream stream n
         on_which n = rw (itself a, stream_is) refl
@@ -176,7 +166,7 @@ module _ {P Q : Type 0} where
           where
             by : (b : Bool) (y : Sound P Q) → cond b (Some z) (greatest made_for (sounds a stream h)) ≡ Some y → Traced (h ++ (m ∷ [])) a y
             by true y e = subst (Traced (h ++ (m ∷ [])) a) (same_Some z y e)
-                (record { from = i; made = packet_stays h m (other a) i pk made; order = come_now h m (arriving a t uui o i (news_of r)) (arrives a t uui o i r) })
+                (record { from = i; made = packet_stays h m (other a) i pk made; order = come_now h m (arriving a t uui o i (news_of r)) refl })
             by false y e = traced_stays m (on.traced y e)
 
         right : Right h (arriving a t uui o i (news_of r))

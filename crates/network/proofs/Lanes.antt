@@ -20,10 +20,11 @@ use Rattle.placing.specs.Arrivals.{is_news}
 use Rattle.trunk.specs.declared.answer.Which.{Which}
 use Rattle.trunk.specs.declared.answer.Which.TheVariants.{First, Second}
 use Rattle.trunk.specs.declared.answer.Arrived.{Arrived}
-use Rattle.trunk.specs.End.{End, with_outs, clock_after, with_ins, first_answer, second_answer, arrive_read}
+use Rattle.trunk.specs.declared.answer.Arrived.TheVariants as arrived
+use Rattle.trunk.specs.End.{End, with_outs, clock_after, with_ins, on_stream, arrive_read}
 use Rattle.network.specs.Names.{same_kind, kind_of}
-use Rattle.network.specs.Packets.{message}
-use Rattle.network.proofs.Ins.{news_of, naming}
+use Rattle.network.specs.Packets.{message, news_of}
+use Rattle.network.proofs.Ins.{naming}
 
 -- the messages of a kind
 abbrev pub Of : Type 0 → Type 0 → Which → Type 0
@@ -55,8 +56,8 @@ module _ (P Q : Type 0) where
 
   -- an answer on the stream of a kind
   abbrev pub on_lane : (w : Which) → Result (Told (MessageNews (Of P Q w))) Refusal → Result (Arrived P Q) Refusal
-  on_lane First r = first_answer r
-  on_lane Second r = second_answer r
+  on_lane First r = on_stream arrived.First r
+  on_lane Second r = on_stream arrived.Second r
 
 module _ {P Q : Type 0} where
   -- of two, that of a kind
@@ -80,7 +81,7 @@ module _ {P Q : Type 0} where
   into w s = of_both Inbound w s.first_in s.second_in
 
   abbrev pub with_out : (w : Which) → End P Q → Stream (Of P Q w) → End P Q
-  with_out w s r = with_outs s s.free (new_first P Q Stream w r s.first_out) (new_second P Q Stream w r s.second_out)
+  with_out w s r = with_outs s s.audio_out (new_first P Q Stream w r s.first_out) (new_second P Q Stream w r s.second_out)
 
   abbrev pub with_in : (w : Which) → End P Q → ℕ → Inbound (Of P Q w) → End P Q
   with_in w s clock r = with_ins s clock s.audio_in (new_first P Q Inbound w r s.first_in) (new_second P Q Inbound w r s.second_in)

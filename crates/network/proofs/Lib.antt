@@ -12,7 +12,6 @@ pub mod Arrives
 pub mod Copies
 pub mod Held
 pub mod Rightly
-pub mod Rooms
 pub mod Steps
 pub mod Examples
 pub mod Sampled

@@ -27,7 +27,7 @@ place_of [] m (suc i) = beyond refl refl
 place_of (y ∷ h) m zero = inside refl refl
 place_of (y ∷ h) m (suc i) = elim (place_of h m i) [ inside t n ↦ inside (cc) n | new t n past ↦ new (cc) n past | beyond n past ↦ beyond n past ]
 
--- no call made no packet
+-- where there was no call, there is no packet
 pub unmade : {P Q : Type 0} (side : Side) (i : Option ℕ) (x : Packet P Q) → packet_from side [] i ≡ Some x → ⊥
 unmade side None x e = none-some x e
 unmade side (Some i) x e = none-some x e
@@ -87,7 +87,7 @@ module _ {P Q : Type 0} (h : List (Moment P Q)) (m : Moment P Q) where
   sounds_snoc : (side : Side) (stream : Stream) → sounds side stream (h ++ (m ∷ [])) ≡ sounds side stream h ++ those (on_it side stream) (add sound_now [])
   sounds_snoc side stream = rw (gather_snoc, those_append) refl
 
-  -- what is not sound, or on another stream, or at the other side, leaves a stream; what is on it is one more
+  -- what is not sound, or on another stream, or at the other side, leaves a stream as it was; what is on it is one more
   pub sounds_stay : (side : Side) (stream : Stream) → those (on_it side stream) (add sound_now []) ≡ [] → sounds side stream (h ++ (m ∷ [])) ≡ sounds side stream h
   sounds_stay side stream e = rw (sounds_snoc side stream, e) (append-nil (sounds side stream h))
 

@@ -19,18 +19,18 @@ use Rattle.placing.proofs.Hearing.{Hears}
 use Rattle.trunk.specs.declared.answer.Which.{Which}
 use Rattle.trunk.specs.declared.answer.Which.TheVariants.{First, Second}
 use Rattle.trunk.specs.End as trunk
-use Rattle.trunk.specs.End.{End, with_ins, force, arrive_audio, arrive_read, arrive_questions}
+use Rattle.trunk.specs.End.{End, with_ins, in_force, arrive_audio, arrive_read, arrive_questions}
 use Rattle.network.specs.declared.side.Side.{Side}
 use Rattle.network.specs.declared.side.Side.TheVariants.{Near, Far}
 use Rattle.network.specs.Names.{other, messages}
 use Rattle.network.specs.Runs.{Call, audio, event, due, arrive, Turn, Moment, Ends, begun, end_at, with_end, after, history, done}
-use Rattle.network.specs.Packets.{Content, entry, message, Packet, Named, Arrival, stream_of, had, packet_from, arrival}
-use Rattle.network.specs.Law.{Sound, sounds, intact, spoiled, foreign, copied, carried, aged, test_of, latest_news, each_arrival, ToldRightly, Law}
+use Rattle.network.specs.Packets.{Content, entry, message, Packet, Named, Arrival, stream_of, had, packet_from, news_of, arrival}
+use Rattle.network.specs.Law.{Sound, sounds, intact, spoiled, foreign, copied, network_rule, age_rule, passes, latest_news, each_arrival, ToldRightly, Law}
 use Rattle.network.proofs.Sameness.{itself}
 use Rattle.network.proofs.Frame.{Right, Forced, Keeps, told_rightly}
 use Rattle.network.proofs.Sends.{Sends, idle}
 use Rattle.network.proofs.Outs.{brings_none}
-use Rattle.network.proofs.Ins.{made_for, is_told, point, arriving, arrive_moment, arrives, news_of}
+use Rattle.network.proofs.Ins.{made_for, is_told, point, arriving, arrive_moment}
 use Rattle.network.proofs.Lanes.{inj, kind_is, into, out, meaning}
 use Rattle.network.proofs.Heard.{stamp}
 use Rattle.network.proofs.Arrives.{Agreed, HeldAt, Known, Fine, some_sort, foreign_fine, spoiled_fine}
@@ -57,8 +57,8 @@ module _ {P Q : Type 0} {p : Meaning P} {q : Meaning Q} {es : List Entry} (ok : 
   -- ---- every arrival is answered rightly
 
   module _ {h : List (Moment P Q)} {a : Side} {s : End P Q} (x : HeldAt p q es h a s) (known : Known p q es h (other a)) (t uui : ℕ) (o : List ℕ) where
-    module _ (i : Option ℕ) (rule : carried h (arriving a t uui o i None) ≡ true) (news : Option (Named P Q))
-        (ages : aged es h (arriving a t uui o i news) ≡ true) where
+    module _ (i : Option ℕ) (rule : network_rule h (arriving a t uui o i None) ≡ true) (news : Option (Named P Q))
+        (ages : age_rule es h (arriving a t uui o i news) ≡ true) where
       abbrev it : Arrival P Q
       it = arriving a t uui o i None
 
@@ -115,27 +115,18 @@ module _ {P Q : Type 0} {p : Meaning P} {q : Meaning Q} {es : List Entry} (ok : 
 
       -- both rules are kept
       abbrev Ruled : Call P Q → Type 0
-      Ruled c = (test_of (carried h) (arrival (now c)) ≡ true) × (test_of (aged es h) (arrival (now c)) ≡ true)
-
-      -- what that says of an arrival
-      fine : (t u : ℕ) (o : List ℕ) (c : Option ℕ) → Ruled (arrive t u o c)
-          → (carried h (arriving a t u o c None) ≡ true) × (aged es h (arriving a t u o c (news_of (trunk.arrive p q (end_at w a) t u o).0)) ≡ true)
-      fine t u o c e =
-          let is = arrives a t u o c (trunk.arrive p q (end_at w a) t u o).0 in
-          (sym (ap (test_of (carried h)) is) ∙ e.0, sym (ap (test_of (aged es h)) is) ∙ e.1)
+      Ruled c = (passes (network_rule h) (now c) ≡ true) × (passes (age_rule es h) (now c) ≡ true)
 
       own : (c : Call P Q) → Ruled c → HeldAt p q es (h ++ (now c ∷ [])) a (done p q (end_at w a) c).1
       own (audio t place o) e = held_audio (held a) t place o
       own (event t y) e = held_event (held a) t y
       own (due v t room) e = held_due (held a) v t room
-      own (arrive t u o c) e = let g = fine t u o c e in held_arrive (held a) (known_there a) t u o c g.0 _ g.1
+      own (arrive t u o c) e = held_arrive (held a) (known_there a) t u o c e.0 (news_of (trunk.arrive p q (end_at w a) t u o).0) e.1
 
       tells : (c : Call P Q) → Ruled c → (y : Arrival P Q) → arrival (now c) ≡ Some y → Right h y
       tells (arrive t u o c) e y g =
-          let i = fine t u o c e in
-          let r = (trunk.arrive p q (end_at w a) t u o).0 in
-          subst (Right h) (same_Some (arriving a t u o c (news_of r)) y (sym (arrives a t u o c r) ∙ g))
-          (arrive_fine (held a) (known_there a) t u o c i.0 _ i.1).right
+          let n = news_of (trunk.arrive p q (end_at w a) t u o).0 in
+          subst (Right h) (same_Some (arriving a t u o c n) y g) (arrive_fine (held a) (known_there a) t u o c e.0 n e.1).right
       tells c e y g = absurd (none-some y g)
 
     goes_on : (a : Side) (c : Call P Q) → Ruled a c → Held p q es (h ++ (now a c ∷ [])) (with_end w a (done p q (end_at w a) c).1)
@@ -150,12 +141,12 @@ module _ {P Q : Type 0} {p : Meaning P} {q : Meaning Q} {es : List Entry} (ok : 
     led [] placed s x e = absurd (none-some s e)
     led (first ∷ ss) placed s x e = x.1.leads ∙ sym x.1.newest ∙ e
 
-    force_of : (v : Which) (s : End P Q) → force s v ≡ option_map (inj P Q v) (into v s).force
+    force_of : (v : Which) (s : End P Q) → in_force s v ≡ option_map (inj P Q v) (into v s).force
     force_of First s = refl
     force_of Second s = refl
 
-    carried_is : (m n : Either P Q) → ◌≡◌ {A = Content P Q} (message m) (message n) → m ≡ n
-    carried_is m n e = cc
+    same_message : (m n : Either P Q) → ◌≡◌ {A = Content P Q} (message m) (message n) → m ≡ n
+    same_message m n e = cc
 
     forced : Forced h w
     forced a v s e =
@@ -166,7 +157,7 @@ module _ {P Q : Type 0} {p : Meaning P} {q : Meaning Q} {es : List Entry} (ok : 
         let made = ((held (other a)).sent.of_kinds v).packets from.from s.packet from.made (ap stream_of f.1 ∙ ap messages (kind_is P Q v f.0)) in
         let content = ap (λ (z : Packet P Q). z.content) made.is in
         let time = ap (λ (z : Packet P Q). z.time) made.is in
-        rw (force_of v (end_at w a), f.2, carried_is (inj P Q v f.0) (inj P Q v made.due.message) (sym f.1 ∙ content)) (sym made.told ∙ ap (λ t. had (other a) v t h) (sym time))
+        rw (force_of v (end_at w a), f.2, same_message (inj P Q v f.0) (inj P Q v made.due.message) (sym f.1 ∙ content)) (sym made.told ∙ ap (λ t. had (other a) v t h) (sym time))
 
   keeps : Keeps p q es (Held p q es)
   keeps = record {
@@ -180,6 +171,7 @@ module _ {P Q : Type 0} {p : Meaning P} {q : Meaning Q} {es : List Entry} (ok : 
 pub the_law : {P Q : Type 0} (p : Meaning P) (q : Meaning Q) → Lawful p → Lawful q → (near far : List Entry) → is_some (refusal near) ≡ false
     → (calls : List (Turn P Q)) → Law p q near far calls (after p q (begun near far) calls)
 the_law p q lp lq near far loads calls ne same =
-    subst (λ es. each_arrival carried (history p q (begun near es) calls) ≡ true → each_arrival (aged near) (history p q (begun near es) calls) ≡ true
-    → ToldRightly (history p q (begun near es) calls) (λ side which. force (end_at (after p q (begun near es) calls) side) which)) same
+    subst (λ es. each_arrival network_rule (history p q (begun near es) calls) ≡ true
+    → each_arrival (age_rule near) (history p q (begun near es) calls) ≡ true
+    → ToldRightly (history p q (begun near es) calls) (λ side which. in_force (end_at (after p q (begun near es) calls) side) which)) same
     (told_rightly p q near (Held p q near) (keeps (record { first = lp; second = lq; apart = ne; loads = loads })) calls)

@@ -19,8 +19,8 @@ use Rattle.trunk.specs.declared.answer.Which.{Which}
 use Rattle.network.specs.declared.side.Side.{Side}
 use Rattle.network.specs.Names.{messages}
 use Rattle.network.specs.Runs.{Moment}
-use Rattle.network.specs.Packets.{message, Packet, stream_of, events, had, of_event, made_at, packet_from}
-use Rattle.network.proofs.Had.{had_of, had_latest, had_before}
+use Rattle.network.specs.Packets.{message, Packet, stream_of, events, had_of, had, of_event, made_at, packet_from}
+use Rattle.network.proofs.Had.{had_latest, had_before}
 use Rattle.network.proofs.Longer.{unmade, old, made_now, whence}
 
 module _ {P Q M : Type 0} (inj : M → Either P Q) where

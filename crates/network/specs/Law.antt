@@ -1,6 +1,6 @@
 -- The law over every list of calls on two ends, in terms of the calls and their answers alone. Assumes nothing.
-use Rattle.std.specs.Prelude.{◌≡◌, ℕ, ◌+◌, ◌*◌, Bool, true, false, cond, not, ◌&&◌, ◌||◌, ltb, leb, List, [], length, ℤ, pos, ◌-ℤ◌, is_some, Some, None, Option, ◌==◌, ◌≢◌, nat_le, nat_lt, unsigned_abs}
-use Rattle.std.specs.Option.{option_map, option_flatten}
+use Rattle.std.specs.Prelude.{◌≡◌, ℕ, ◌+◌, ◌*◌, Bool, true, false, cond, not, ◌&&◌, ◌||◌, List, [], length, bytes_eq, ℤ, pos, ◌-ℤ◌, is_some, Some, None, Option, ◌==◌, ◌≢◌, nat_le, nat_lt, unsigned_abs}
+use Rattle.std.specs.Option.{option_map, option_map_or, option_flatten}
 use Rattle.refusal.specs.Questions.{is_time}
 use Rattle.crc10.specs.Changes.{changed, found}
 use Rattle.type3.specs.Kinds.{Meaning}
@@ -9,9 +9,9 @@ use Rattle.profile.specs.declared.entry.Entry.{Entry}
 use Rattle.profile.specs.Labels.{span_of}
 use Rattle.placing.specs.Lists.{all, those, last, greatest, gather, everywhere, Everywhere}
 use Rattle.trunk.specs.declared.answer.Which.{Which}
-use Rattle.trunk.specs.End.{force}
+use Rattle.trunk.specs.End.{is_uui, in_force}
 use Rattle.network.specs.declared.side.Side.{Side}
-use Rattle.network.specs.Names.{other, same_side, Stream, messages, same_stream, same_octets}
+use Rattle.network.specs.Names.{other, same_side, Stream, messages, same_stream}
 use Rattle.network.specs.Runs.{Turn, Moment, Ends, begun, end_at, history}
 use Rattle.network.specs.Packets.{Content, entry, message, Packet, Named, Arrival, stream_of, had, packet_from, arrival, arrivals}
 
@@ -24,7 +24,7 @@ module _ {P Q : Type 0} where
 
   -- a sound copy of a packet: of type 3, with the same octets; of audio, the octets may have changed
   abbrev pub intact : Packet P Q → Arrival P Q → Bool
-  intact p x = kept p x && (not (x.uui == 24) || same_octets p.octets x.octets)
+  intact p x = kept p x && (not (x.uui == 24) || bytes_eq p.octets x.octets)
 
   -- a spoiled copy of a type 3 packet: one to three bits or an odd number of bits are changed, or some within ten neighbouring bits
   abbrev pub spoiled : Packet P Q → Arrival P Q → Bool
@@ -32,7 +32,7 @@ module _ {P Q : Type 0} where
 
   -- a UUI that no packet of an end has
   abbrev pub foreign : Arrival P Q → Bool
-  foreign x = not (nat_le x.uui 15 || x.uui == 24)
+  foreign x = not (is_uui x.uui)
 
   -- the packet that an arrival copies, if a call of the other side made it before
   abbrev pub original : List (Moment P Q) → Arrival P Q → Option (Packet P Q)
@@ -64,13 +64,13 @@ module _ {P Q : Type 0} where
 
   -- ---- the network's rule, and the age rule
 
-  abbrev pub test_of : (Arrival P Q → Bool) → Option (Arrival P Q) → Bool
-  test_of test None = true
-  test_of test (Some x) = test x
+  -- the arrival of a moment, if its call is one, passes a test
+  abbrev pub passes : (Arrival P Q → Bool) → Moment P Q → Bool
+  passes test m = option_map_or test (arrival m) true
 
   -- each arrival of a list passes a test, beside the calls before it
   abbrev pub each_arrival : (List (Moment P Q) → Arrival P Q → Bool) → List (Moment P Q) → Bool
-  each_arrival test h = everywhere (λ before m. test_of (test before) (arrival m)) [] h
+  each_arrival test h = everywhere (λ before m. passes (test before) m) [] h
 
   -- a sound or a spoiled copy
   abbrev pub copied : Arrival P Q → Option (Packet P Q) → Bool
@@ -79,10 +79,10 @@ module _ {P Q : Type 0} where
 
   -- The network's rule: arrival times are times, and do not run back at a side; each arrival is a sound copy, or a spoiled one, or
   -- foreign.
-  abbrev pub carried : List (Moment P Q) → Arrival P Q → Bool
-  carried before x =
+  abbrev pub network_rule : List (Moment P Q) → Arrival P Q → Bool
+  network_rule before x =
       is_time x.time
-      && all (λ y. leb y.time x.time) (arrivals x.side before)
+      && all (λ y. nat_le y.time x.time) (arrivals x.side before)
       && (copied x (original before x) || foreign x)
 
   -- the age: the arrival time, less the time that the packet was made for
@@ -98,21 +98,21 @@ module _ {P Q : Type 0} where
   near_age es s None = true
   near_age es s (Some t) = nat_lt (2 * unsigned_abs (age s -ℤ age t)) (span es s.packet.content)
 
-  abbrev pub aged_if : List Entry → List (Moment P Q) → Option (Sound P Q) → Bool
-  aged_if es before None = true
-  aged_if es before (Some s) = near_age es s (greatest (λ t. t.packet.time) (earlier before s))
+  abbrev pub age_rule_if : List Entry → List (Moment P Q) → Option (Sound P Q) → Bool
+  age_rule_if es before None = true
+  age_rule_if es before (Some s) = near_age es s (greatest (λ t. t.packet.time) (earlier before s))
 
   -- The age rule: of the sound arrivals before a sound one on its stream, take the one made for the latest time, and of several the
   -- first to arrive; the two ages differ by less than half the span.
-  abbrev pub aged : List Entry → List (Moment P Q) → Arrival P Q → Bool
-  aged es before x = aged_if es before (sound before x)
+  abbrev pub age_rule : List Entry → List (Moment P Q) → Arrival P Q → Bool
+  age_rule es before x = age_rule_if es before (sound before x)
 
   -- ---- the law
 
   -- sound, and made for a later time than every sound arrival before it on its stream
   abbrev pub later_than_all : List (Moment P Q) → Option (Sound P Q) → Bool
   later_than_all before None = false
-  later_than_all before (Some s) = all (λ t. ltb t.packet.time s.packet.time) (earlier before s)
+  later_than_all before (Some s) = all (λ t. nat_lt t.packet.time s.packet.time) (earlier before s)
 
   -- the latest of the arrivals that were news
   abbrev pub latest_news : List (Sound P Q) → Option (Sound P Q)
@@ -135,7 +135,7 @@ module _ {P Q : Type 0} where
   EachArrival So h = Everywhere (λ before m. (x : Arrival P Q) → arrival m ≡ Some x → So before x) [] h
 
   -- what both ends tell of a list of calls with their answers, and what is in force after it, is right
-  pub record ToldRightly (h : List (Moment P Q)) (in_force : Side → Which → Option (Either P Q)) : Type 0 where
+  pub record ToldRightly (h : List (Moment P Q)) (force : Side → Which → Option (Either P Q)) : Type 0 where
     -- an arrival is news exactly when it is sound and made for a later time than every sound one before it on its stream
     pub news_exactly_when_later : EachArrival (λ before x. is_some x.news ≡ later_than_all before (sound before x)) h
     -- news names the entry or the message of the packet that it copies, and the time since the news before
@@ -143,7 +143,7 @@ module _ {P Q : Type 0} where
     -- on each stream of messages with news, the message in force is the one that the far end had at the time that the latest news
     -- was made for
     pub in_force_is_what_the_far_end_had : (side : Side) (which : Which) (s : Sound P Q) → latest_news (sounds side (messages which) h) ≡ Some s
-        → in_force side which ≡ had (other side) which s.packet.time h
+        → force side which ≡ had (other side) which s.packet.time h
 
   -- The law for a list of calls on two ends that were just started, and the two ends after it. For two kinds of different message
   -- types and one profile: where the network keeps its rule and ages keep theirs, both ends tell rightly.
@@ -151,4 +151,4 @@ module _ {P Q : Type 0} where
   Law p q near far calls ends =
       (p.message_type ≢ q.message_type) → near ≡ far
       → (let h = history p q (begun near far) calls in
-      each_arrival carried h ≡ true → each_arrival (aged near) h ≡ true → ToldRightly h (λ side which. force (end_at ends side) which))
+      each_arrival network_rule h ≡ true → each_arrival (age_rule near) h ≡ true → ToldRightly h (λ side which. in_force (end_at ends side) which))

@@ -3,6 +3,7 @@ pub mod Runs
 pub mod Packets
 pub mod Law
 pub mod Answers
+pub mod Notation
 pub mod Witness
 pub mod Rows
 pub mod Samples

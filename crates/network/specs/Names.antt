@@ -1,5 +1,5 @@
 -- Sides, kinds and streams by name, and tests whether two are the same. Assumes nothing.
-use Rattle.std.specs.Prelude.{ℕ, Bool, true, false, ◌&&◌, List, [], ◌∷◌, ◌==◌}
+use Rattle.std.specs.Prelude.{Bool, true, false}
 use Rattle.type3.specs.declared.payload.Either.{Either}
 use Rattle.type3.specs.declared.payload.Either.TheVariants.{First, Second}
 use Rattle.trunk.specs.declared.answer.Which.{Which}
@@ -38,9 +38,3 @@ same_stream audio audio = true
 same_stream audio (messages w) = false
 same_stream (messages v) audio = false
 same_stream (messages v) (messages w) = same_kind v w
-
-abbrev pub same_octets : List ℕ → List ℕ → Bool
-same_octets [] [] = true
-same_octets [] (b ∷ bs) = false
-same_octets (a ∷ xs) [] = false
-same_octets (a ∷ xs) (b ∷ bs) = a == b && same_octets xs bs

@@ -1,7 +1,8 @@
 -- What the calls of a list made and took, read off the calls and their answers. Assumes nothing.
-use Rattle.std.specs.Prelude.{ℕ, cond, List, [], take, Some, None, Ok, Err, Option, ◌==◌, nat_le}
+use Rattle.std.specs.Prelude.{ℕ, cond, List, [], take, Some, None, Ok, Err, Option, Result, ◌==◌, nat_le}
 use Rattle.std.specs.List.{slice_get}
 use Rattle.std.specs.Option.{option_map}
+use Rattle.refusal.specs.declared.Refusal.{Refusal}
 use Rattle.type3.specs.Octets.{redundancy_in}
 use Rattle.type3.specs.declared.payload.Either.{Either}
 use Rattle.type3.specs.declared.payload.Either.TheVariants.{First, Second}
@@ -33,7 +34,8 @@ pub record Named (P Q : Type 0) : Type 0 where
   pub content : Content P Q
   pub elapsed : ℕ
 
--- an arrival: at which side and when, the packet, which call's packet it copies, if any, and what it was answered to name, if news
+-- an arrival: its side and time, the packet's UUI and octets, the call whose packet it copies, if any, and what its answer names, if
+-- it is news
 pub record Arrival (P Q : Type 0) : Type 0 where
   pub side : Side
   pub time : ℕ
@@ -41,6 +43,10 @@ pub record Arrival (P Q : Type 0) : Type 0 where
   pub octets : List ℕ
   pub copies : Option ℕ
   pub news : Option (Named P Q)
+
+-- of events, the message of the one with the latest time not after a time
+abbrev pub had_of : {M : Type 0} → ℕ → List (Event M) → Option M
+had_of t es = option_map (λ e. e.message) (greatest (λ e. e.time) (those (λ e. nat_le e.time t) es))
 
 module _ {P Q : Type 0} where
   -- ---- events, and what a side had
@@ -61,7 +67,7 @@ module _ {P Q : Type 0} where
 
   -- the message that a side had at a time: that of its accepted event with the latest time not after it
   abbrev pub had : Side → Which → ℕ → List (Moment P Q) → Option (Either P Q)
-  had side which t h = option_map (λ e. e.message) (greatest (λ e. e.time) (those (λ e. nat_le e.time t) (events side which h)))
+  had side which t h = had_of t (events side which h)
 
   -- ---- packets
 
@@ -106,9 +112,13 @@ module _ {P Q : Type 0} where
   named (on.Second Repeat) = None
   named (on.Second Late) = None
 
+  -- a refusal is no news
+  abbrev pub news_of : Result (Arrived P Q) Refusal → Option (Named P Q)
+  news_of (Ok x) = named x
+  news_of (Err f) = None
+
   abbrev pub arrival_by : Side → (c : Call P Q) → AnswerTo c → Option (Arrival P Q)
-  arrival_by side (arrive t uui o copies) (Ok x) = Some (record { side = side; time = t; uui = uui; octets = o; copies = copies; news = named x })
-  arrival_by side (arrive t uui o copies) (Err f) = Some (record { side = side; time = t; uui = uui; octets = o; copies = copies; news = None })
+  arrival_by side (arrive t uui o copies) r = Some (record { side = side; time = t; uui = uui; octets = o; copies = copies; news = news_of r })
   arrival_by side (audio t place payload) r = None
   arrival_by side (event t m) r = None
   arrival_by side (due which t room) r = None

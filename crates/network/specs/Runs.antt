@@ -19,7 +19,8 @@ pub data Call (P Q : Type 0) : Type 0 where
   due : Which → ℕ → ℕ → Call P Q
   arrive : ℕ → ℕ → List ℕ → Option ℕ → Call P Q
 
--- what a call that is not refused answers: audio a label, event no more, due the octets that it wrote, arrive what came
+-- what a call that is not refused answers: audio the label, event nothing more, due the octets written, if any, arrive what the
+-- arrival is
 abbrev pub Says : {P Q : Type 0} → Call P Q → Type 0
 Says (audio t place payload) = ℕ
 Says (event t m) = Unit {0}
@@ -58,7 +59,7 @@ module _ {P Q : Type 0} where
   begun near far = record { near = started near; far = started far }
 
   module _ (p : Meaning P) (q : Meaning Q) where
-    -- a call on its end
+    -- a call on an end: its answer, and the end after it
     abbrev pub done : End P Q → (c : Call P Q) → AnswerTo c × End P Q
     done s (audio t place payload) = trunk.audio s t place (length payload)
     done s (event t m) = trunk.event s t m

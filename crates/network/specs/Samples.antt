@@ -1,5 +1,5 @@
--- Made by tests/law/make.py: random lists of calls on two ends, with the answers of an oracle that was written from docs/ alone.
--- Assumes nothing.
+-- Made by tests/law/make.py: random lists of calls on two ends, and of entries that do not load, with the answers of an oracle that was
+-- written from docs/ alone. Assumes nothing.
 use Rattle.std.specs.Prelude.{◌≡◌, ℕ, true, false, List, [], ◌∷◌, map, replicate, Some, None, Ok, Err, Option, refl}
 use Rattle.refusal.specs.declared.Refusal.{Refusal}
 use Rattle.refusal.specs.declared.Refusal.TheVariants.{Profile, Sending, Arrival, Type3, Kind, Placing}
@@ -21,7 +21,7 @@ use Rattle.placing.specs.declared.receiver.Class.TheVariants.{Event, Confirmed, 
 use Rattle.trunk.specs.declared.answer.Which.TheVariants as which
 use Rattle.trunk.specs.declared.answer.Arrived.TheVariants as on
 use Rattle.network.specs.Runs.{Moment, audio, event, due, arrive}
-use Rattle.network.specs.Witness.{digit, signal, near, far, audio_news, digit_news, bits_news, Answered}
+use Rattle.network.specs.Notation.{digit, signal, near, far, audio_news, digit_news, bits_news, Answered}
 
 -- index, format, first and last UUI, length, packet time and interval
 abbrev pub entry : Option ℕ → ℕ → ℕ → ℕ → ℕ → ℕ → ℕ → Entry

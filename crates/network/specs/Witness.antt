@@ -1,46 +1,35 @@
 -- A list of calls on two ends, with its answers, for which every premise of the law holds: the law is not empty. Assumes nothing.
-use Rattle.std.specs.Prelude.{◌≡◌, ℕ, Bool, true, false, not, ◌&&◌, List, [], ◌∷◌, map, take, is_some, Some, None, Ok, Err, Option, Result, ◌==◌, ◌≢◌, nat_lt, refl}
+use Rattle.std.specs.Prelude.{◌≡◌, ℕ, Bool, true, false, not, ◌&&◌, List, [], ◌∷◌, take, is_some, Some, None, Ok, Err, Option, ◌==◌, ◌≢◌, refl}
 use Rattle.std.specs.List.{slice_get}
 use Rattle.std.specs.Option.{option_map, option_map_or, option_and_then}
 use Rattle.refusal.specs.declared.Refusal.TheVariants.{Sending, Type3, Arrival as AtArrival}
 use Rattle.refusal.specs.declared.SendingFault.TheVariants.{NotLater}
 use Rattle.refusal.specs.declared.ArrivalFault.TheVariants.{UnknownUui}
 use Rattle.refusal.specs.declared.Type3Fault.TheVariants.{WrongCrc}
-use Rattle.refusal.specs.declared.Refusal.{Refusal}
 use Rattle.type3.specs.declared.payload.Either.TheVariants.{First, Second}
-use Rattle.kinds.specs.declared.system.System.{System}
 use Rattle.kinds.specs.declared.system.System.TheVariants.{Dtmf}
 use Rattle.kinds.specs.declared.digit.Digit.{Digit}
 use Rattle.kinds.specs.declared.cas.CasBits.{CasBits}
-use Rattle.kinds.specs.Systems.{number_of}
-use Rattle.kinds.specs.Codes.{is_code}
 use Rattle.kinds.specs.Digits.{digits}
 use Rattle.kinds.specs.Cas.{cas}
 use Rattle.profile.specs.Examples.{entries_of}
 use Rattle.profile.specs.Questions.{refusal}
 use Rattle.profile.specs.declared.entry.Entry.{Entry}
 use Rattle.profile.specs.declared.examples.Example.TheVariants.{A}
-use Rattle.placing.specs.declared.stream.Told.TheVariants.{News, Repeat, Late}
-use Rattle.placing.specs.declared.receiver.Class.{Class}
+use Rattle.placing.specs.declared.stream.Told.TheVariants.{Repeat, Late}
 use Rattle.placing.specs.declared.receiver.Class.TheVariants.{Event, Confirmed, Recovered}
 use Rattle.placing.specs.Lists.{all, gather}
 use Rattle.trunk.specs.declared.answer.Which.TheVariants as which
-use Rattle.trunk.specs.declared.answer.Arrived.{Arrived}
 use Rattle.trunk.specs.declared.answer.Arrived.TheVariants as on
-use Rattle.trunk.specs.End.{force}
+use Rattle.trunk.specs.End.{in_force}
 use Rattle.network.specs.declared.side.Side.TheVariants.{Near, Far}
 use Rattle.network.specs.Names.{messages}
-use Rattle.network.specs.Runs.{Call, audio, event, due, arrive, AnswerTo, Turn, Moment, Ends, begun, end_at, after, history}
+use Rattle.network.specs.Runs.{audio, event, due, arrive, Moment, Ends, begun, end_at, after, history}
 use Rattle.network.specs.Packets.{Arrival, had, packet_from, arrival, arrivals}
-use Rattle.network.specs.Law.{spoiled, foreign, original, sound, sounds, each_arrival, carried, aged, later_than_all, latest_news}
+use Rattle.network.specs.Law.{spoiled, foreign, original, sound, sounds, each_arrival, network_rule, age_rule, later_than_all, latest_news}
+use Rattle.network.specs.Notation.{digit, signal, near, far, audio_news, digit_news, bits_news, calls_of, Answered}
 
 -- ---- what is sent
-
-abbrev pub digit : (level : ℕ) (system : System) (code : ℕ) → nat_lt level 32 ≡ true → is_code (number_of system) code ≡ true → Digit
-digit level system code low known = record { level = level; system = system; code = code; low = low; known = known }
-
-abbrev pub signal : Bool → Bool → Bool → Bool → CasBits
-signal a b c d = record { a = a; b = b; c = c; d = d }
 
 -- keys 5 and 7 at -10 dBm0, and signalling bits
 abbrev pub five : Digit
@@ -94,23 +83,6 @@ abbrev pub silence : List ℕ
 silence = 30 ∷ []
 
 -- ---- the calls and their answers
-
-abbrev pub near : (c : Call Digit CasBits) → AnswerTo c → Moment Digit CasBits
-near c r = record { side = Near; call = c; answer = r }
-
-abbrev pub far : (c : Call Digit CasBits) → AnswerTo c → Moment Digit CasBits
-far c r = record { side = Far; call = c; answer = r }
-
-abbrev pub audio_news : ℕ → ℕ → ℕ → Result (Arrived Digit CasBits) Refusal
-audio_news place elapsed position = Ok (on.Audio (News (record { place = place; moved = record { elapsed = elapsed; position = position } })))
-
-abbrev pub digit_news : Class → ℕ → ℕ → ℕ → Digit → Result (Arrived Digit CasBits) Refusal
-digit_news class redundancy elapsed position d =
-    Ok (on.First (News (record { class = class; redundancy = redundancy; moved = record { elapsed = elapsed; position = position }; message = d })))
-
-abbrev pub bits_news : Class → ℕ → ℕ → ℕ → CasBits → Result (Arrived Digit CasBits) Refusal
-bits_news class redundancy elapsed position m =
-    Ok (on.Second (News (record { class = class; redundancy = redundancy; moved = record { elapsed = elapsed; position = position }; message = m })))
 
 -- Each call, with its answer. Digits and audio go from near to far, and signalling bits come back.
 abbrev pub witness : List (Moment Digit CasBits)
@@ -169,13 +141,6 @@ witness =
     ∷ near (arrive 3 24 bits_copy_0 (Some 25)) (bits_news Event 0 0 0 bits)
     ∷ []
 
-abbrev pub calls_of : List (Moment Digit CasBits) → List (Turn Digit CasBits)
-calls_of ms = map (λ m. record { side = m.side; call = m.call }) ms
-
--- two ends with this profile answer the calls so
-abbrev pub Answered : List Entry → List (Moment Digit CasBits) → Type 0
-Answered es ms = history digits cas (begun es es) (calls_of ms) ≡ ms
-
 abbrev pub profile : List Entry
 profile = entries_of A
 
@@ -191,8 +156,8 @@ run = history digits cas (begun profile profile) (calls_of witness)
 pub record PremisesHold : Type 0 where
   pub message_types_differ : digits.message_type ≢ cas.message_type
   pub profile_loads : refusal profile ≡ None
-  pub network_keeps_its_rule : each_arrival carried run ≡ true
-  pub ages_keep_theirs : each_arrival (aged profile) run ≡ true
+  pub network_keeps_its_rule : each_arrival network_rule run ≡ true
+  pub ages_keep_theirs : each_arrival (age_rule profile) run ≡ true
 
 -- of the arrival at a place of the list, beside the calls before it
 abbrev pub at : {Y : Type 0} → ℕ → (List (Moment Digit CasBits) → Arrival Digit CasBits → Y) → Option Y
@@ -208,7 +173,7 @@ pub record SortsOccur : Type 0 where
   pub arrival_8_is_spoiled : at 8 (λ before x. option_map_or (λ p. spoiled p x) (original before x) false) ≡ Some true
   pub arrival_9_is_foreign : at 9 (λ before x. foreign x) ≡ Some true
   pub arrival_11_is_a_sound_copy : at 11 (λ before x. is_some (sound before x)) ≡ Some true
-  pub arrival_18_is_of_18510 : at 18 (λ before x. option_map (λ s. s.packet.time) (sound before x)) ≡ Some (Some 18510)
+  pub arrival_18_is_made_for_18510 : at 18 (λ before x. option_map (λ s. s.packet.time) (sound before x)) ≡ Some (Some 18510)
   -- at 4, 6, 8, 9, 10, 11, 18, 20, 22, 23 and 26
   pub later_than_all_before :
       gather (λ before m. option_map (λ x. later_than_all before (sound before x)) (arrival m)) [] witness
@@ -217,10 +182,10 @@ pub record SortsOccur : Type 0 where
 -- The key 7 is in force at the far end, whose latest news was made for 18,510, as the near end had it then; and the bits at the near
 -- end, as the far end had them.
 pub record InForce : Type 0 where
-  pub at_the_far_end : force (end_at ends Far) which.First ≡ Some (First seven)
+  pub at_the_far_end : in_force (end_at ends Far) which.First ≡ Some (First seven)
   pub latest_news_there : option_map (λ s. s.packet.time) (latest_news (sounds Far (messages which.First) witness)) ≡ Some 18510
   pub what_the_near_end_had : had Near which.First 18510 witness ≡ Some (First seven)
-  pub at_the_near_end : force (end_at ends Near) which.Second ≡ Some (Second bits)
+  pub at_the_near_end : in_force (end_at ends Near) which.Second ≡ Some (Second bits)
   pub what_the_far_end_had : had Far which.Second 5 witness ≡ Some (Second bits)
 
 pub record LawIsNotEmpty : Type 0 where

@@ -2,19 +2,15 @@
 ghost use Rattle.std.specs.Prelude.{◌≡◌, false, is_some};
 ghost use Rattle.profile.specs.Questions.{refusal};
 ghost use Rattle.network.specs.Runs.{end_at, begun, done, taken};
-ghost use Rattle.trunk.specs.End.{due};
 ghost use Rattle.network.specs.Answers.{call_of, turn_of, said_by, answered};
 
 use crate::call::{Answer, Call, Turn};
 use crate::side::Side;
-use refusal::Refusal;
 use std::marker::Model;
-use trunk::answer::Which;
 use trunk::service::InService;
 use trunk::set_up::SetUp;
 use type3::kind::Kind;
-use type3::payload::{Either, LONGEST};
-use type3::written::Written;
+use type3::payload::Either;
 
 #[derive(Drop)]
 pub struct Ends<P: Kind, Q: Kind> {
@@ -34,7 +30,7 @@ impl<P: Kind, Q: Kind> Ends<P, Q> {
     // Both are started.
     pub fn start(near: SetUp, far: SetUp) -> Ends<P, Q>
         ensures value { result ≡ begun near far }
-        ensures sound { is_some (refusal near) ≡ false }
+        ensures loads { is_some (refusal near) ≡ false }
     {
         Ends {
             near: near.start::<P, Q>(),
@@ -80,7 +76,7 @@ fn answer<P: Kind, Q: Kind>(
             payload,
         } => Answer::Audio(end.audio(*time, *place, payload)),
         Call::Event { time, message } => Answer::Event(end.event(*time, *message)),
-        Call::Due { which, time, room } => { Answer::Due(due_octets(end, *which, *time, *room)) }
+        Call::Due { which, time, room } => Answer::Due(end.due_octets(*which, *time, *room)),
         Call::Arrive {
             time,
             uui,
@@ -88,21 +84,4 @@ fn answer<P: Kind, Q: Kind>(
             ..
         } => Answer::Arrive(end.arrive(*time, *uui, octets)),
     }
-}
-
-// What is due, with its octets.
-fn due_octets<P: Kind, Q: Kind>(
-    end: &mut InService<P, Q>,
-    which: Which,
-    time: u64,
-    room: usize,
-) -> Result<Option<Written<LONGEST>>, Refusal>
-    ensures value { result ≡ (due P.Kind.model Q.Kind.model end.old which time room).0 }
-    ensures after { end.new ≡ (due P.Kind.model Q.Kind.model end.old which time room).1 }
-{
-    let mut octets = [0; LONGEST];
-    let Some(count) = end.due(which, time, &mut octets[..room.min(LONGEST)])? else {
-        return Ok(None);
-    };
-    Ok(Some(Written::new(octets, count)))
 }

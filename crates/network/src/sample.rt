@@ -2,9 +2,10 @@
 ghost use Rattle.std.specs.Prelude.{◌≡◌, IfOk, MatchResult, map};
 ghost use Rattle.profile.specs.declared.load.LoadError.TheVariants.{Memory};
 ghost use Rattle.network.specs.Answers.{turn_of, said_at};
+ghost use Rattle.network.specs.Notation.{calls_of};
 ghost use Rattle.network.specs.Rows.{RowsHold};
 ghost use Rattle.network.specs.Samples.{SamplesHold};
-ghost use Rattle.network.specs.Witness.{five as key_5, seven as key_7, calls_of, witness, ends, LawIsNotEmpty};
+ghost use Rattle.network.specs.Witness.{five as key_5, seven as key_7, witness, ends, LawIsNotEmpty};
 
 use crate::call::{Call, Turn};
 use crate::side::Side;

@@ -1,5 +1,5 @@
 -- The calls on an end in service: what each is answered, and the end after it. Assumes nothing.
-use Rattle.std.specs.Prelude.{ℕ, min, List, Some, None, Ok, Err, Option, Result}
+use Rattle.std.specs.Prelude.{ℕ, List, Some, None, Ok, Err, Option, Result}
 use Rattle.refusal.specs.declared.Refusal.{Refusal}
 use Rattle.type3.specs.declared.payload.Either.{Either}
 use Rattle.type3.specs.declared.payload.Either.TheVariants.{First, Second}
@@ -28,9 +28,6 @@ abbrev pub packet : Option (List ℕ) → Answer
 packet (Some octets) = Sent octets
 packet None = Nothing
 
-abbrev pub sent : Result (Option (List ℕ)) Refusal → Result Answer Refusal
-sent r = told packet r
-
 -- so many octets of audio
 abbrev pub label : Service → ℕ → ℕ → ℕ → Result Answer Refusal × Service
 label s t place n = let r = trunk.audio s t place n in (told Label r.0, r.1)
@@ -49,10 +46,9 @@ abbrev pub event_of : Service → ℕ → Result (Either Digit CasBits) Refusal 
 event_of s t (Ok m) = let r = trunk.event s t m in (told (λ _. Done) r.0, r.1)
 event_of s t (Err f) = (Err f, s)
 
--- No packet is longer than twelve octets, so more room is as twelve.
 abbrev pub serve : Service → ServiceCall → Result Answer Refusal × Service
 serve s (Audio t place n) = label s t place n
 serve s (Event t m) = event_of s t (made m)
-serve s (Due which t room) = let r = trunk.due digits cas s which t (min room 12) in (sent r.0, r.1)
+serve s (Due which t room) = let r = trunk.due digits cas s which t room in (told packet r.0, r.1)
 serve s (Arrive t uui octets) = let r = trunk.arrive digits cas s t uui octets.items in (told Arrived r.0, r.1)
-serve s (Force which) = (Ok (InForce (trunk.force s which)), s)
+serve s (Force which) = (Ok (InForce (trunk.in_force s which)), s)

@@ -1,9 +1,6 @@
 // The calls on an end in service.
-ghost use Rattle.std.specs.Prelude.{◌≡◌, min};
-ghost use Rattle.kinds.specs.Digits.{digits};
-ghost use Rattle.kinds.specs.Cas.{cas};
-ghost use Rattle.trunk.specs.End.{due};
-ghost use Rattle.rack.specs.Serving.{label, made, sent, serve};
+ghost use Rattle.std.specs.Prelude.{◌≡◌};
+ghost use Rattle.rack.specs.Serving.{label, made, serve};
 
 use crate::answer::Answer;
 use crate::call::{Message, ServiceCall};
@@ -11,10 +8,8 @@ use kinds::cas::{Cas, CasBits};
 use kinds::digit::Digit;
 use kinds::digits::Digits;
 use refusal::Refusal;
-use trunk::answer::Which;
 use trunk::service::InService;
-use type3::payload::{Either, LONGEST};
-use type3::written::Written;
+use type3::payload::Either;
 
 // The rack's end has digits and signalling bits as its kinds.
 pub type Service = InService<Digits, Cas>;
@@ -33,7 +28,10 @@ pub fn serve(end: &mut Service, call: &ServiceCall) -> Result<Answer, Refusal>
             end.event(*time, message.make()?)?;
             Ok(Answer::Done)
         }
-        ServiceCall::Due { which, time, room } => what_is_due(end, *which, *time, *room),
+        ServiceCall::Due { which, time, room } => {
+            let octets = end.due_octets(*which, *time, *room)?;
+            Ok(octets.map_or(Answer::Nothing, Answer::Sent))
+        }
         ServiceCall::Arrive { time, uui, octets } => {
             Ok(Answer::Arrived(end.arrive(*time, *uui, octets.as_slice())?))
         }
@@ -62,17 +60,4 @@ fn audio(end: &mut Service, time: u64, place: usize, length: u16) -> Result<Answ
 {
     let octets = [0; 65_535];
     Ok(Answer::Label(end.audio(time, place, &octets[..usize::from(length)])?))
-}
-
-// What is due, in a buffer of so many octets, or of the longest packet's where that is less.
-fn what_is_due(end: &mut Service, which: Which, time: u64, room: usize) -> Result<Answer, Refusal>
-    ensures value { result ≡ sent (due digits cas end.old which time (min room 12)).0 }
-    ensures after { end.new ≡ (due digits cas end.old which time (min room 12)).1 }
-{
-    let mut octets = [0; LONGEST];
-    let written = end.due(which, time, &mut octets[..room.min(LONGEST)])?;
-    Ok(written.map_or(
-        Answer::Nothing,
-        |count| Answer::Sent(Written::new(octets, count)),
-    ))
 }

@@ -7,7 +7,8 @@ use crate::answer::Which;
 use crate::service::InService;
 use refusal::Refusal;
 use type3::kind::Kind;
-use type3::payload::Either;
+use type3::payload::{Either, LONGEST};
+use type3::written::Written;
 
 impl<P: Kind, Q: Kind> InService<P, Q> {
     // Audio from a time on, under the entry at a place: the label of its packet. Nothing is written.
@@ -43,5 +44,22 @@ impl<P: Kind, Q: Kind> InService<P, Q> {
             Which::First => self.first_out.due(time, out),
             Which::Second => self.second_out.due(time, out),
         }
+    }
+
+    // The same with the octets themselves, for a caller who lends no buffer: they are written in so much room.
+    pub fn due_octets(
+        &mut self,
+        which: Which,
+        time: u64,
+        room: usize,
+    ) -> Result<Option<Written<LONGEST>>, Refusal>
+        ensures value { result ≡ (due P.Kind.model Q.Kind.model self.old which time room).0 }
+        ensures after { self.new ≡ (due P.Kind.model Q.Kind.model self.old which time room).1 }
+    {
+        let mut octets = [0; LONGEST];
+        let Some(count) = self.due(which, time, &mut octets[..room.min(LONGEST)])? else {
+            return Ok(None);
+        };
+        Ok(Some(Written::new(octets, count)))
     }
 }

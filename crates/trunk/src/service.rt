@@ -1,6 +1,6 @@
 // An end in service.
 ghost use Rattle.std.specs.Prelude.{◌≡◌};
-ghost use Rattle.trunk.specs.End.{force};
+ghost use Rattle.trunk.specs.End.{in_force};
 
 use crate::answer::Which;
 use crate::set_up::SetUp;
@@ -27,15 +27,13 @@ pub struct InService<P: Kind, Q: Kind> {
 }
 
 impl<P: Kind, Q: Kind> Model for InService<P, Q> {
-    ghost use Rattle.std.specs.Prelude.{◌≡◌, false, is_some};
-    ghost use Rattle.profile.specs.Questions.{refusal};
     ghost use Rattle.trunk.specs.End.{End};
 
     ghost Value = { End P.Message Q.Message };
 
     ghost view = { λ s. record {
       profile = s.profile;
-      free = s.audio_out;
+      audio_out = s.audio_out;
       first_out = s.first_out;
       second_out = s.second_out;
       clock = s.clock;
@@ -48,7 +46,7 @@ impl<P: Kind, Q: Kind> Model for InService<P, Q> {
 impl<P: Kind, Q: Kind> InService<P, Q> {
     // The message in force on the stream of a kind: that of its latest news.
     pub fn in_force(&self, which: Which) -> Option<Either<P::Message, Q::Message>>
-        ensures { result ≡ force self.now which }
+        ensures { result ≡ in_force self.now which }
     {
         match which {
             Which::First => Some(Either::First(self.first_in.in_force()?)),

@@ -60,7 +60,7 @@ impl SetUp {
     // The end in service, over two kinds, with nothing sent and nothing received.
     pub fn start<P: Kind, Q: Kind>(self) -> InService<P, Q>
         ensures value { result ≡ started self }
-        ensures sound { is_some (refusal self) ≡ false }
+        ensures loads { is_some (refusal self) ≡ false }
     {
         InService {
             profile: self.profile,
