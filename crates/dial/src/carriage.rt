@@ -1,8 +1,8 @@
-// The network between the two ends: it loses, repeats, holds back and spoils packets by their numbers, and takes longer and longer.
-ghost use Rattle.std.specs.Prelude.{◌≡◌, ◌<◌, ◌^◌, take, length};
-ghost use Rattle.dial.specs.Network.{fate, arrival, again, held_back, sound_at, deliveries, spoiled, far_time};
-
-use crate::script::{Asked, Reply, time_of};
+// The network between the two ends: what arrives of the packets that were sent, and when.
+use crate::script::{Asked, time_of};
+use dialling::fates::{Delivery, Sort, State, far_time};
+use dialling::heard::Reply;
+use dialling::octets::{copied, spoiled};
 use network::call::{Answer, Call, Turn};
 use network::side::Side;
 use refusal::times::Time;
@@ -10,47 +10,9 @@ use std::alloc::{AllocError, Global};
 use type3::payload::{LONGEST, TYPE_3_UUI};
 use type3::written::Written;
 
-// Packets of a sort are numbered by themselves, and take their own time.
-#[derive(Clone, Copy, Debug, PartialEq, Eq)]
-pub enum Sort {
-    Message,
-    Audio,
-}
-
-// What happens to a packet.
-#[derive(Clone, Copy, Debug, PartialEq, Eq)]
-pub enum Fate {
-    Lost,
-    Arrives,
-    // and once more, some time later
-    Twice,
-    // for some time
-    HeldBack,
-    // a spoiled copy arrives, and then the packet
-    Spoiled,
-    // and a foreign packet with it
-    WithForeign,
-}
-
-#[derive(Clone, Copy, Debug, PartialEq, Eq)]
-pub enum State {
-    Sound,
-    // the lowest bit of the third octet is changed
-    Spoiled,
-    // a packet of nobody, in its place
-    Foreign,
-}
-
-// What arrives of a packet, at a time of the near end's clock.
-#[derive(Clone, Copy, Debug, PartialEq, Eq)]
-pub struct Delivery {
-    pub time: u64,
-    pub state: State,
-}
-
 // A packet that a call made, by the place of the call.
 #[derive(Clone, Copy)]
-struct Packet<'a> {
+struct Sent<'a> {
     call: usize,
     sort: Sort,
     time: Time,
@@ -69,125 +31,18 @@ pub struct Parcel {
 
 const FOREIGN: u16 = 27;
 
-// The octet of which a bit is changed.
-const THIRD: usize = 2;
-
-// In milliseconds: from a spoiled copy to the packet.
-const AFTER_SPOILED: u64 = 20;
-
-// By how much the far end's clock is ahead.
-const AHEAD: u64 = 5_000_000;
-
-impl Sort {
-    // What happens to the packet of a number. (The first three messages are the copies of off-hook.)
-    pub fn fate(self, number: usize) -> Fate
-        ensures { result ≡ fate self number }
-    {
-        match self {
-            Sort::Message if number < 3 => Fate::Lost,
-            Sort::Message => match number % 8 {
-                0 => Fate::Lost,
-                2 => Fate::Twice,
-                4 => Fate::HeldBack,
-                6 => Fate::Spoiled,
-                7 => Fate::WithForeign,
-                _ => Fate::Arrives,
-            },
-            Sort::Audio => match number % 5 {
-                1 => Fate::Lost,
-                2 => Fate::Twice,
-                3 => Fate::HeldBack,
-                _ => Fate::Arrives,
-            },
-        }
-    }
-
-    // When a packet that was sent at a time arrives, if nothing happens to it.
-    pub fn arrival(self, sent: Time) -> u64
-        ensures value { result ≡ arrival self sent }
-        ensures below { result < 2 ^ 41 }
-    {
-        let sent = sent.get();
-        match self {
-            Sort::Message => sent + 40 + sent / 2,
-            Sort::Audio => sent + 30,
-        }
-    }
-
-    // How long after a packet it arrives once more, and how long one is held back.
-    fn again(self) -> u64
-        ensures value { result ≡ again self }
-        ensures below { result < 2 ^ 10 }
-    {
-        match self {
-            Sort::Message => 700,
-            Sort::Audio => 3,
-        }
-    }
-
-    fn held_back(self) -> u64
-        ensures value { result ≡ held_back self }
-        ensures below { result < 2 ^ 10 }
-    {
-        match self {
-            Sort::Message => 1000,
-            Sort::Audio => 8,
-        }
-    }
-
-    // What arrives of the packet of a number that was sent at a time.
-    pub fn deliveries(self, number: usize, sent: Time) -> [Option<Delivery>; 2]
-        ensures { result ≡ deliveries self number sent }
-    {
-        let time = self.arrival(sent);
-        let sound = Some(Delivery {
-            time,
-            state: State::Sound,
-        });
-        match self.fate(number) {
-            Fate::Lost => [None, None],
-            Fate::Arrives => [sound, None],
-            Fate::Twice => [sound, later(time + self.again())],
-            Fate::HeldBack => [later(time + self.held_back()), None],
-            Fate::Spoiled => [
-                Some(Delivery {
-                    time,
-                    state: State::Spoiled,
-                }),
-                later(time + AFTER_SPOILED),
-            ],
-            Fate::WithForeign => [
-                sound,
-                Some(Delivery {
-                    time,
-                    state: State::Foreign,
-                }),
-            ],
-        }
-    }
-}
-
-fn later(time: u64) -> Option<Delivery>
-    ensures { result ≡ sound_at time }
-{
-    Some(Delivery {
-        time,
-        state: State::Sound,
-    })
-}
-
-impl<'a> Packet<'a> {
+impl<'a> Sent<'a> {
     // The packet that a call made, if it made one.
-    fn of(call: usize, turn: &Asked<'a>, answer: &'a Reply) -> Option<Packet<'a>> {
+    fn of(call: usize, turn: &Asked<'a>, answer: &'a Reply) -> Option<Sent<'a>> {
         match (turn.call, answer) {
-            (Call::Audio { time, payload, .. }, Answer::Audio(Ok(uui))) => Some(Packet {
+            (Call::Audio { time, payload, .. }, Answer::Audio(Ok(uui))) => Some(Sent {
                 call,
                 sort: Sort::Audio,
                 time: Time::new(time)?,
                 uui: *uui,
                 octets: payload,
             }),
-            (Call::Due { time, .. }, Answer::Due(Ok(Some(octets)))) => Some(Packet {
+            (Call::Due { time, .. }, Answer::Due(Ok(Some(octets)))) => Some(Sent {
                 call,
                 sort: Sort::Message,
                 time: Time::new(time)?,
@@ -213,30 +68,6 @@ impl<'a> Packet<'a> {
     }
 }
 
-// No packet has more octets than are taken here.
-fn buffer(octets: &[u8]) -> [u8; LONGEST]
-    ensures { take (length octets.now) result ≡ take LONGEST octets.now }
-{
-    let mut buffer = [0; LONGEST];
-    let count = octets.len().min(LONGEST);
-    buffer[..count].copy_from_slice(&octets[..count]);
-    buffer
-}
-
-fn copied(octets: &[u8]) -> Written<LONGEST>
-    ensures { result ≡ take LONGEST octets.now }
-{
-    Written::new(buffer(octets), octets.len())
-}
-
-fn spoiled(octets: &[u8]) -> Written<LONGEST>
-    ensures { THIRD < length octets.now → result ≡ spoiled (take LONGEST octets.now) }
-{
-    let mut buffer = buffer(octets);
-    buffer[THIRD] ^= 1;
-    Written::new(buffer, octets.len())
-}
-
 // What the network makes of the packets that these calls made, in the order in which it arrives.
 pub fn carry(heap: Global, calls: &[Asked], answers: &[Reply]) -> Result<Vec<Parcel>, AllocError> {
     let mut parcels = Vec::new(heap);
@@ -256,7 +87,7 @@ fn carry_sort(
 ) -> Result<(), AllocError> {
     let mut number = 0usize;
     for (call, (turn, answer)) in calls.iter().zip(answers).enumerate() {
-        let Some(packet) = Packet::of(call, turn, answer) else {
+        let Some(packet) = Sent::of(call, turn, answer) else {
             continue;
         };
         if packet.sort == sort {
@@ -281,8 +112,8 @@ pub fn merged<'a>(
     let mut coming = parcels;
     for turn in calls {
         let time = time_of(turn);
-        let (before, rest) = coming.split_at(coming.partition_point(|parcel| parcel.delivery.time
-            < time));
+        let count = coming.partition_point(|parcel| parcel.delivery.time < time);
+        let (before, rest) = coming.split_at(count);
         for parcel in before {
             turns.push(parcel.arriving(places.as_slice()))?;
         }
@@ -313,11 +144,4 @@ impl Parcel {
             },
         }
     }
-}
-
-// A time of the near end's clock, on the far end's.
-pub fn far_time(time: u64) -> u64
-    ensures { result ≡ far_time time }
-{
-    time.saturating_add(AHEAD)
 }

@@ -3,8 +3,9 @@
 #![tactic(auto)]
 
 use carriage::{carry, merged};
+use dialling::heard::tones_heard;
+use dialling::tone::Tone;
 use examples::hex::Hex;
-use heard::tones_heard;
 use kinds::cas::Cas;
 use kinds::digits::Digits;
 use network::side::Side;
@@ -16,11 +17,9 @@ use std::alloc::Global;
 use std::env;
 use trunk::answer::Which;
 use trunk::set_up::SetUp;
-use type3::reading::read_payload;
-use words::Said;
+use words::{Carried, Said};
 
 mod carriage;
-mod heard;
 mod script;
 mod show;
 mod words;
@@ -28,38 +27,28 @@ mod words;
 // What is dialled where no argument says otherwise: two keys, a character that is no key, and a third key.
 const NUMBER: &str = "5#x0";
 
-fn main(rt: HostRuntime) -> anyhow::Result<()> {
-    run(&rt)
-}
+// Octets that no honest end sends: a spoiled octet, and too few.
+const HOSTILE: [&[u8]; 2] = [
+    &[0x00, 0x00, 0x0a, 0x05, 0x0a, 0xea],
+    &[0x00, 0x00, 0x0a, 0x05],
+];
 
-fn run(rt: &HostRuntime) -> anyhow::Result<()> {
+fn main(rt: HostRuntime) -> anyhow::Result<()> {
     let heap = rt.alloc();
-    let mut args = env::args(rt)?;
+    let mut args = env::args(&rt)?;
     let _program = args.next();
     let number = args.next();
-    let script = Script::of(rt, number.as_ref().map_or(NUMBER, |number| number.as_str()))?;
+    let script = Script::of(
+        &rt,
+        number.as_ref().map_or(NUMBER, |number| number.as_str()),
+    )?;
     // what the near end sends, and then the same with what arrives of it
     let calls = script.calls(heap)?;
     let sent = played(heap, calls.as_slice())?;
     let parcels = carry(heap, calls.as_slice(), sent.answers.as_slice())?;
     let turns = merged(heap, calls.as_slice(), parcels.as_slice())?;
     let run = played(heap, turns.as_slice())?;
-    let counts = show_turns(rt, turns.as_slice(), run.answers.as_slice())?;
-    let heard = tones_heard(heap, run.answers.as_slice())?;
-    show_tones(rt, "dialled", script.tones())?;
-    show_tones(rt, "heard", heard.as_slice())?;
-    if heard.as_slice() == script.tones() {
-        println!(rt; "heard as dialled")?;
-    } else {
-        println!(rt; "not heard as dialled")?;
-    }
-    match run.ends.end(Side::Far).in_force(Which::Second) {
-        Some(bits) => println!(rt; "in force at the far end: {}", Said(bits))?,
-        None => println!(rt; "in force at the far end: nothing")?,
-    }
-    hostile(rt)?;
-    println!(rt; "{counts}")?;
-    Ok(())
+    show_call(&rt, script.tones.as_slice(), turns.as_slice(), &run)
 }
 
 // A list of calls on two new ends.
@@ -69,16 +58,31 @@ fn played(heap: Global, turns: &[Asked]) -> Result<Run<Digits, Cas>, LoadError> 
     Ok(simulate::<Digits, Cas>(heap, near, far, turns)?)
 }
 
-// Octets that no honest end sends: a spoiled octet, and too few.
-fn hostile(rt: &HostRuntime) -> anyhow::Result<()> {
-    read(rt, &[0x00, 0x00, 0x0a, 0x05, 0x0a, 0xea])?;
-    read(rt, &[0x00, 0x00, 0x0a, 0x05])
-}
-
-fn read(rt: &HostRuntime, octets: &[u8]) -> anyhow::Result<()> {
-    match read_payload::<Digits>(octets) {
-        Ok(_) => println!(rt; "octets {}: read", Hex(octets))?,
-        Err(refusal) => println!(rt; "octets {}: {refusal}", Hex(octets))?,
+// The call, in lines.
+fn show_call(
+    rt: &HostRuntime,
+    dialled: &[Tone],
+    turns: &[Asked],
+    run: &Run<Digits, Cas>,
+) -> anyhow::Result<()> {
+    let answers = run.answers.as_slice();
+    let counts = show_turns(rt, turns, answers)?;
+    let heard = tones_heard(rt.alloc(), answers)?;
+    show_tones(rt, "dialled", dialled)?;
+    show_tones(rt, "heard", heard.as_slice())?;
+    let not = if heard.as_slice() == dialled {
+        ""
+    } else {
+        "not "
+    };
+    println!(rt; "{not}heard as dialled")?;
+    match run.ends.end(Side::Far).in_force(Which::Second) {
+        Some(bits) => println!(rt; "in force at the far end: {}", Said(bits))?,
+        None => println!(rt; "in force at the far end: nothing")?,
     }
+    for octets in HOSTILE {
+        println!(rt; "octets {}: {}", Hex(octets), Carried(octets))?;
+    }
+    println!(rt; "{counts}")?;
     Ok(())
 }

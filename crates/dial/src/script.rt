@@ -1,11 +1,9 @@
 // What the caller does, and the calls on the near end that come of it. Times are in milliseconds of its clock.
-ghost use Rattle.std.specs.Prelude.{◌≡◌};
-ghost use Rattle.dial.specs.Dialling.{held, pause_before};
-
+use dialling::tone::{Tone, held, pause_before};
 use kinds::cas::CasBits;
 use kinds::digit::{Digit, TONE_OFF};
 use kinds::system::System;
-use network::call::{Answer, Call, Turn};
+use network::call::{Call, Turn};
 use network::side::Side;
 use std::alloc::{AllocError, Global};
 use trunk::answer::Which;
@@ -16,16 +14,6 @@ pub type Message = Either<Digit, CasBits>;
 // A call, with octets that are lent.
 pub type Asked<'a> = Turn<&'a [u8], Message>;
 
-pub type Reply = Answer<Digit, CasBits>;
-
-// A tone, as a caller makes it or as a listener hears it, and the pause before it.
-#[derive(Clone, Copy, Debug, PartialEq, Eq)]
-pub struct Tone {
-    pub key: Digit,
-    pub pause: u64,
-    pub held: u64,
-}
-
 // An event that the caller brings about.
 #[derive(Clone, Copy)]
 struct Step {
@@ -35,36 +23,32 @@ struct Step {
 
 #[derive(Drop)]
 pub struct Script {
-    tones: Vec<Tone>,
+    // those that are dialled
+    pub tones: Vec<Tone>,
     steps: Vec<Step>,
     // the start of each talk spurt
     spurts: [u64; 2],
     end: u64,
 }
 
-const OFF_HOOK: CasBits = CasBits {
+const OFF_HOOK: Message = Either::Second(CasBits {
     a: true,
     b: false,
     c: false,
     d: false,
-};
+});
 
-const ON_HOOK: CasBits = CasBits {
+const ON_HOOK: Message = Either::Second(CasBits {
     a: false,
     b: false,
     c: false,
     d: false,
-};
+});
 
 // In dBm0.
 const LEVEL: i8 = -10;
 
 const MOST_KEYS: usize = 64;
-
-// How long keys are held, and the pauses after them. After the last of a row comes the first again.
-const HELD: [u64; 5] = [120, 90, 1100, 80, 150];
-
-const PAUSES: [u64; 5] = [70, 12_000, 250, 90, 60];
 
 const OFF_HOOK_TIME: u64 = 1000;
 
@@ -91,33 +75,37 @@ const SPURT: u64 = 60;
 impl Script {
     pub fn of(rt: &HostRuntime, number: &str) -> anyhow::Result<Script> {
         let tones = tones_of(rt, number)?;
-        let off = Digit::new(System::Dtmf.into(), TONE_OFF, LEVEL)?;
+        let off = Either::First(Digit::new(System::Dtmf.into(), TONE_OFF, LEVEL)?);
         let mut steps = Vec::new(rt.alloc());
-        steps.push(hook(OFF_HOOK_TIME, OFF_HOOK))?;
+        steps.push(Step {
+            time: OFF_HOOK_TIME,
+            message: OFF_HOOK,
+        })?;
         let mut time = DIALLING_TIME;
         for tone in &tones {
             time = time.saturating_add(tone.pause);
-            steps.push(digit(time, tone.key))?;
+            steps.push(Step {
+                time,
+                message: Either::First(tone.key),
+            })?;
             time = time.saturating_add(tone.held);
-            steps.push(digit(time, off))?;
+            steps.push(Step { time, message: off })?;
         }
         let first = time
             .saturating_add(pause_before(tones.len()))
             .saturating_add(BEFORE_TALK);
         let second = first.saturating_add(SPURT + SILENCE);
         let on_hook = second.saturating_add(SPURT + BEFORE_ON_HOOK);
-        steps.push(hook(on_hook, ON_HOOK))?;
+        steps.push(Step {
+            time: on_hook,
+            message: ON_HOOK,
+        })?;
         Ok(Script {
             tones,
             steps,
             spurts: [first, second],
             end: on_hook.saturating_add(AFTER_ON_HOOK),
         })
-    }
-
-    // The tones that are dialled.
-    pub fn tones(&self) -> &[Tone] {
-        self.tones.as_slice()
     }
 
     // The calls of the near end: at each fifth millisecond its events, audio, and what is due.
@@ -168,20 +156,6 @@ fn near(call: Call<&'static [u8], Message>) -> Asked<'static> {
     }
 }
 
-fn hook(time: u64, bits: CasBits) -> Step {
-    Step {
-        time,
-        message: Either::Second(bits),
-    }
-}
-
-fn digit(time: u64, digit: Digit) -> Step {
-    Step {
-        time,
-        message: Either::First(digit),
-    }
-}
-
 // The tones of a number. A character that is no key is told, and left out.
 fn tones_of(rt: &HostRuntime, number: &str) -> anyhow::Result<Vec<Tone>> {
     let mut tones = Vec::new(rt.alloc());
@@ -201,21 +175,4 @@ fn tones_of(rt: &HostRuntime, number: &str) -> anyhow::Result<Vec<Tone>> {
         }
     }
     Ok(tones)
-}
-
-// How long the key at a place of the number is held.
-fn held(place: usize) -> u64
-    ensures { result ≡ held place }
-{
-    HELD[place % 5]
-}
-
-// The pause before the key at a place: that after the key before.
-fn pause_before(place: usize) -> u64
-    ensures { result ≡ pause_before place }
-{
-    match place.checked_sub(1) {
-        Some(before) => PAUSES[before % 5],
-        None => 0,
-    }
 }

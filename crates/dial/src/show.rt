@@ -1,6 +1,8 @@
 // The lines of the call, and how often it came to what.
-use crate::script::{Asked, Reply, Tone, time_of};
-use crate::words::{AudioOf, Carried, Heard, Packet, Said, Stream};
+use crate::script::{Asked, time_of};
+use crate::words::{Carried, Heard, Packet, Said};
+use dialling::heard::Reply;
+use dialling::tone::Tone;
 use kinds::cas::CasBits;
 use kinds::digit::Digit;
 use network::call::{Answer, Call};
@@ -9,16 +11,16 @@ use placing::receiver::Class;
 use placing::stream::Told;
 use std::fmt;
 use trunk::answer::Arrived;
-use type3::payload::TYPE_3_UUI;
+use type3::payload::{Either, TYPE_3_UUI};
 
-// What came of a packet: it was sent, and arrived or was lost, or was answered where it arrived.
-#[derive(Clone, Copy, Debug, PartialEq, Eq)]
-pub enum Outcome {
+// What came of a packet: sent and not lost, lost, or how it was answered where it arrived.
+#[derive(Clone, Copy, PartialEq)]
+enum Outcome {
     Sent,
     Lost,
-    Event,
-    Confirmed,
-    Recovered,
+    // news of a message
+    Message(Class),
+    // news of audio
     Audio,
     Repeat,
     Late,
@@ -28,9 +30,9 @@ pub enum Outcome {
 const SENT: &[Outcome] = &[Outcome::Sent, Outcome::Lost];
 
 const NEWS: &[Outcome] = &[
-    Outcome::Event,
-    Outcome::Confirmed,
-    Outcome::Recovered,
+    Outcome::Message(Class::Event),
+    Outcome::Message(Class::Confirmed),
+    Outcome::Message(Class::Recovered),
     Outcome::Audio,
 ];
 
@@ -64,9 +66,9 @@ impl fmt::Display for Counts {
             f,
             "sent {sent} packets, {lost} of them lost; {arrived} arrived: {news} news ("
         )?;
-        let event = self.of(Outcome::Event);
-        let confirmed = self.of(Outcome::Confirmed);
-        let recovered = self.of(Outcome::Recovered);
+        let event = self.of(Outcome::Message(Class::Event));
+        let confirmed = self.of(Outcome::Message(Class::Confirmed));
+        let recovered = self.of(Outcome::Message(Class::Recovered));
         let audio = self.of(Outcome::Audio);
         write!(
             f,
@@ -93,21 +95,13 @@ fn outcome_of(answer: &Reply, lost: bool) -> Option<Outcome> {
 fn outcome_of_arrived(arrived: &Arrived<Digit, CasBits>) -> Outcome {
     match arrived {
         Arrived::Audio(Told::News(_)) => Outcome::Audio,
-        Arrived::First(Told::News(news)) => outcome_of_class(news.class),
-        Arrived::Second(Told::News(news)) => outcome_of_class(news.class),
+        Arrived::First(Told::News(news)) => Outcome::Message(news.class),
+        Arrived::Second(Told::News(news)) => Outcome::Message(news.class),
         Arrived::Audio(Told::Repeat)
         | Arrived::First(Told::Repeat)
         | Arrived::Second(Told::Repeat) => Outcome::Repeat,
         Arrived::Audio(Told::Late) | Arrived::First(Told::Late) | Arrived::Second(Told::Late) =>
             Outcome::Late,
-    }
-}
-
-fn outcome_of_class(class: Class) -> Outcome {
-    match class {
-        Class::Event => Outcome::Event,
-        Class::Confirmed => Outcome::Confirmed,
-        Class::Recovered => Outcome::Recovered,
     }
 }
 
@@ -122,12 +116,12 @@ struct Line<'a> {
 
 impl<'a> fmt::Display for Line<'a> {
     fn fmt<W: fmt::Write>(&self, f: &mut fmt::Formatter<W>) -> fmt::Result {
-        match self.turn.side {
-            Side::Near => write!(f, "near")?,
-            Side::Far => write!(f, "far ")?,
-        }
+        let side = match self.turn.side {
+            Side::Near => "near",
+            Side::Far => "far",
+        };
         let time = time_of(self.turn);
-        write!(f, "{time:>9}  ")?;
+        write!(f, "{side:4}{time:>9}  ")?;
         self.about(f)
     }
 }
@@ -135,52 +129,38 @@ impl<'a> fmt::Display for Line<'a> {
 impl<'a> Line<'a> {
     // What the call is about.
     fn about<W: fmt::Write>(&self, f: &mut fmt::Formatter<W>) -> fmt::Result {
+        let lost = if self.lost { ", lost" } else { "" };
         match (self.turn.call, self.answer) {
-            (Call::Event { message, .. }, Answer::Event(Ok(()))) => write!(
-                f,
-                "event  {}",
-                Said(message)
-            ),
-            (Call::Event { message, .. }, Answer::Event(Err(refusal))) => {
-                write!(f, "event  {}: {refusal}", Said(message))
+            (Call::Event { message, .. }, Answer::Event(Ok(()))) => {
+                write!(f, "event  {}", Said(message))
             }
             (Call::Audio { place, payload, .. }, Answer::Audio(Ok(uui))) => {
                 let packet = Packet {
                     uui: *uui,
                     octets: payload,
                 };
-                self.sends(packet, AudioOf(place), f)
+                write!(f, "sends  {packet}: audio of entry {place}{lost}")
             }
-            (Call::Audio { place, .. }, Answer::Audio(Err(refusal))) => {
-                write!(f, "sends  {}: {refusal}", AudioOf(place))
-            }
-            (Call::Due { .. }, Answer::Due(Ok(Some(octets)))) => {
+            (_, Answer::Due(Ok(Some(octets)))) => {
                 let octets = octets.as_slice();
                 let packet = Packet {
                     uui: TYPE_3_UUI,
                     octets,
                 };
-                self.sends(packet, Carried(octets), f)
-            }
-            (Call::Due { which, .. }, Answer::Due(Err(refusal))) => {
-                write!(f, "asks   {}: {refusal}", Stream(which))
+                write!(f, "sends  {packet}: {}{lost}", Carried(octets))
             }
             (Call::Arrive { uui, octets, .. }, Answer::Arrive(answer)) => {
                 let packet = Packet { uui, octets };
                 write!(f, "hears  {packet}: {}", Heard(answer))
             }
+            (
+                _,
+                Answer::Audio(Err(refusal))
+                | Answer::Event(Err(refusal))
+                | Answer::Due(Err(refusal)),
+            ) => { write!(f, "asks   {refusal}") }
             _ => Ok(()),
         }
-    }
-
-    fn sends<S: fmt::Display + Drop, W: fmt::Write>(
-        &self,
-        packet: Packet,
-        carried: S,
-        f: &mut fmt::Formatter<W>,
-    ) -> fmt::Result {
-        let lost = if self.lost { ", lost" } else { "" };
-        write!(f, "sends  {packet}: {carried}{lost}")
     }
 }
 
@@ -208,10 +188,13 @@ pub fn show_turns(rt: &HostRuntime, turns: &[Asked], answers: &[Reply]) -> anyho
     Ok(Counts { outcomes })
 }
 
-// The tones of a side, in a line each.
+// The tones of a side, in a line each, with the pause before each.
 pub fn show_tones(rt: &HostRuntime, word: &str, tones: &[Tone]) -> anyhow::Result<()> {
     for tone in tones {
-        println!(rt; "{word:7}  {tone}")?;
+        let key = Said(Either::First(tone.key));
+        let held = tone.held;
+        let pause = tone.pause;
+        println!(rt; "{word:7}  {key} for {held:>5} ms, after a pause of {pause:>5} ms")?;
     }
     Ok(())
 }

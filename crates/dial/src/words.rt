@@ -1,15 +1,15 @@
 // Messages, packets and answers as text.
-use crate::script::{Message, Tone};
+use crate::script::Message;
 use examples::hex::Hex;
 use kinds::cas::{Cas, CasBits};
-use kinds::digit::{Digit, TONE_OFF};
+use kinds::digit::Digit;
 use kinds::digits::Digits;
 use kinds::keys::key_of;
-use placing::receiver::{Class, MessageNews};
+use placing::receiver::MessageNews;
 use placing::stream::Told;
 use refusal::Refusal;
 use std::fmt;
-use trunk::answer::{Arrived, AudioNews, Which};
+use trunk::answer::Arrived;
 use type3::bounded::Redundancy;
 use type3::payload::{Either, TYPE_3_UUI};
 use type3::reading::read_either;
@@ -21,35 +21,15 @@ pub struct Said(pub Message);
 impl fmt::Display for Said {
     fn fmt<W: fmt::Write>(&self, f: &mut fmt::Formatter<W>) -> fmt::Result {
         match self.0 {
-            Either::First(digit) => write!(f, "{}", SaidDigit(digit)),
-            Either::Second(bits) => write!(f, "{}", SaidBits(bits)),
+            Either::First(digit) => match key_of(digit.code()) {
+                Some(key) => write!(f, "key {key}"),
+                None => write!(f, "tone-off"),
+            },
+            Either::Second(bits) => {
+                let hook = if bits.a { "off-hook" } else { "on-hook" };
+                write!(f, "bits {:04b} ({hook})", bits.octet())
+            }
         }
-    }
-}
-
-#[derive(Drop)]
-pub struct SaidDigit(pub Digit);
-
-impl fmt::Display for SaidDigit {
-    fn fmt<W: fmt::Write>(&self, f: &mut fmt::Formatter<W>) -> fmt::Result {
-        let code = self.0.code();
-        if code == TONE_OFF {
-            return write!(f, "tone-off");
-        }
-        match key_of(code) {
-            Some(key) => write!(f, "key {key}"),
-            None => write!(f, "code {code}"),
-        }
-    }
-}
-
-#[derive(Drop)]
-pub struct SaidBits(pub CasBits);
-
-impl fmt::Display for SaidBits {
-    fn fmt<W: fmt::Write>(&self, f: &mut fmt::Formatter<W>) -> fmt::Result {
-        let hook = if self.0.a { "off-hook" } else { "on-hook" };
-        write!(f, "bits {:04b} ({hook})", self.0.octet())
     }
 }
 
@@ -66,41 +46,18 @@ impl fmt::Display for SentAs {
     }
 }
 
-// Audio, by the place of its entry.
-#[derive(Drop)]
-pub struct AudioOf(pub usize);
-
-impl fmt::Display for AudioOf {
-    fn fmt<W: fmt::Write>(&self, f: &mut fmt::Formatter<W>) -> fmt::Result {
-        write!(f, "audio of entry {}", self.0)
-    }
-}
-
 // What the octets of a packet carry.
 #[derive(Drop)]
 pub struct Carried<'a>(pub &'a [u8]);
 
 impl<'a> fmt::Display for Carried<'a> {
     fn fmt<W: fmt::Write>(&self, f: &mut fmt::Formatter<W>) -> fmt::Result {
-        match read_either::<Digits, Cas>(self.0) {
-            Ok(Either::First(payload)) => {
-                write!(
-                    f,
-                    "{}, {}",
-                    SaidDigit(payload.message),
-                    SentAs(payload.redundancy)
-                )
-            }
-            Ok(Either::Second(payload)) => {
-                write!(
-                    f,
-                    "{}, {}",
-                    SaidBits(payload.message),
-                    SentAs(payload.redundancy)
-                )
-            }
-            Err(refusal) => write!(f, "{refusal}"),
-        }
+        let (message, redundancy) = match read_either::<Digits, Cas>(self.0) {
+            Ok(Either::First(payload)) => (Either::First(payload.message), payload.redundancy),
+            Ok(Either::Second(payload)) => (Either::Second(payload.message), payload.redundancy),
+            Err(refusal) => return write!(f, "{refusal}"),
+        };
+        write!(f, "{}, {}", Said(message), SentAs(redundancy))
     }
 }
 
@@ -122,19 +79,6 @@ impl<'a> fmt::Display for Packet<'a> {
     }
 }
 
-// A kind's stream.
-#[derive(Drop)]
-pub struct Stream(pub Which);
-
-impl fmt::Display for Stream {
-    fn fmt<W: fmt::Write>(&self, f: &mut fmt::Formatter<W>) -> fmt::Result {
-        match self.0 {
-            Which::First => write!(f, "digits"),
-            Which::Second => write!(f, "bits"),
-        }
-    }
-}
-
 // The answer to an arrival.
 #[derive(Drop)]
 pub struct Heard<'a>(pub &'a Result<Arrived<Digit, CasBits>, Refusal>);
@@ -142,12 +86,19 @@ pub struct Heard<'a>(pub &'a Result<Arrived<Digit, CasBits>, Refusal>);
 impl<'a> fmt::Display for Heard<'a> {
     fn fmt<W: fmt::Write>(&self, f: &mut fmt::Formatter<W>) -> fmt::Result {
         match self.0 {
-            Ok(Arrived::Audio(Told::News(news))) => audio_news(news, f),
+            Ok(Arrived::Audio(Told::News(news))) => {
+                let place = news.place;
+                let elapsed = news.moved.elapsed;
+                write!(
+                    f,
+                    "news, audio of entry {place}, {elapsed} ms after the news before"
+                )
+            }
             Ok(Arrived::First(Told::News(news))) => {
-                message_news(news, SaidDigit(news.message), f)
+                message_news(news, Either::First(news.message), f)
             }
             Ok(Arrived::Second(Told::News(news))) => {
-                message_news(news, SaidBits(news.message), f)
+                message_news(news, Either::Second(news.message), f)
             }
             Ok(Arrived::Audio(Told::Repeat)) => write!(f, "repeat, audio"),
             Ok(Arrived::First(Told::Repeat)) => write!(f, "repeat, digits"),
@@ -160,36 +111,17 @@ impl<'a> fmt::Display for Heard<'a> {
     }
 }
 
-fn audio_news<W: fmt::Write>(news: &AudioNews, f: &mut fmt::Formatter<W>) -> fmt::Result {
-    let audio = AudioOf(news.place);
-    let elapsed = news.moved.elapsed;
-    write!(f, "news, {audio}, {elapsed} ms after the news before")
-}
-
-fn message_news<T: Copy, S: fmt::Display + Drop, W: fmt::Write>(
+fn message_news<T: Copy, W: fmt::Write>(
     news: &MessageNews<T>,
-    said: S,
+    message: Message,
     f: &mut fmt::Formatter<W>,
 ) -> fmt::Result {
-    let class = match news.class {
-        Class::Event => "event",
-        Class::Confirmed => "confirmed",
-        Class::Recovered => "recovered",
-    };
+    let class = news.class;
+    let said = Said(message);
     let elapsed = news.moved.elapsed;
     let sent_as = SentAs(news.redundancy);
     write!(
         f,
         "news, {class}, {said}, {sent_as}, {elapsed} ms after the news before"
     )
-}
-
-// A tone, with the pause before it.
-impl fmt::Display for Tone {
-    fn fmt<W: fmt::Write>(&self, f: &mut fmt::Formatter<W>) -> fmt::Result {
-        let key = SaidDigit(self.key);
-        let held = self.held;
-        let pause = self.pause;
-        write!(f, "{key} for {held:>5} ms, after a pause of {pause:>5} ms")
-    }
 }

@@ -11,12 +11,9 @@ upper = codes "0123456789ABCDEF"
 abbrev pub lower : List ℕ
 lower = codes "0123456789abcdef"
 
-abbrev pub row_of : Letters → List ℕ
-row_of Upper = upper
-row_of Lower = lower
-
-abbrev pub hex_value : List ℕ → ℕ → Option ℕ
-hex_value row digit = place_from 0 row digit
+abbrev pub hex_value : Letters → ℕ → Option ℕ
+hex_value Upper digit = place_from 0 upper digit
+hex_value Lower digit = place_from 0 lower digit
 
 abbrev pub octet_by : Option ℕ → Option ℕ → Option ℕ
 octet_by (Some high) (Some low) = Some (high * 16 + low)
@@ -27,5 +24,5 @@ octet_by None low = None
 abbrev pub octet_of : Letters → List ℕ → Option ℕ
 octet_of letters [] = None
 octet_of letters (high ∷ []) = None
-octet_of letters (high ∷ low ∷ []) = octet_by (hex_value (row_of letters) high) (hex_value (row_of letters) low)
+octet_of letters (high ∷ low ∷ []) = octet_by (hex_value letters high) (hex_value letters low)
 octet_of letters (high ∷ low ∷ next ∷ more) = None

@@ -29,7 +29,9 @@ back Three = refl
 marked : (n : ℕ) (m : Mark) → mark_by n ≡ Some m → code_of m ≡ n
 marked n m e = grind (arith, nat_tests)
 
-eight : (o : List ℕ) → length o ≡ 8 → o ≡ slice_index o 0 ∷ slice_index o 1 ∷ slice_index o 2 ∷ slice_index o 3 ∷ slice_index o 4 ∷ slice_index o 5 ∷ slice_index o 6 ∷ slice_index o 7 ∷ []
+eight : (o : List ℕ) → length o ≡ 8
+    → o ≡ slice_index o 0 ∷ slice_index o 1 ∷ slice_index o 2 ∷ slice_index o 3 ∷
+    slice_index o 4 ∷ slice_index o 5 ∷ slice_index o 6 ∷ slice_index o 7 ∷ []
 eight [] e = absurd (omega arith)
 eight (a ∷ []) e = absurd (omega arith)
 eight (a ∷ b ∷ []) e = absurd (omega arith)
@@ -41,8 +43,9 @@ eight (a ∷ b ∷ c ∷ d ∷ f ∷ g ∷ h ∷ []) e = absurd (omega arith)
 eight (a ∷ b ∷ c ∷ d ∷ f ∷ g ∷ h ∷ i ∷ []) e = refl
 eight (a ∷ b ∷ c ∷ d ∷ f ∷ g ∷ h ∷ i ∷ j ∷ o) e = absurd (omega arith)
 
-zeros : (o : List ℕ) (m : Mark) → read_eight o ≡ Ok m →
-    (slice_index o 0 ≡ 0) × (slice_index o 1 ≡ 0) × (slice_index o 2 ≡ 0) × (slice_index o 3 ≡ 0) × (slice_index o 4 ≡ 0) × (slice_index o 5 ≡ 0) × (slice_index o 6 ≡ 0) × (code_of m ≡ slice_index o 7)
+zeros : (o : List ℕ) (m : Mark) → read_eight o ≡ Ok m
+    → (slice_index o 0 ≡ 0) × (slice_index o 1 ≡ 0) × (slice_index o 2 ≡ 0) × (slice_index o 3 ≡ 0) ×
+    (slice_index o 4 ≡ 0) × (slice_index o 5 ≡ 0) × (slice_index o 6 ≡ 0) × (code_of m ≡ slice_index o 7)
 zeros o m e = grind (arith, nat_tests, marked (slice_index o 7) m)
 
 forth : (o : List ℕ) (m : Mark) → length o ≡ 8 → read_eight o ≡ Ok m → wide.body m ≡ o

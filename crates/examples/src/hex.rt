@@ -1,6 +1,6 @@
 // Octets in hexadecimal.
 ghost use Rattle.std.specs.Prelude.{◌≡◌, ◌<◌, IfSome};
-ghost use Rattle.examples.specs.Hex.{upper, lower, row_of, hex_value, octet_of};
+ghost use Rattle.examples.specs.Hex.{hex_value, octet_of};
 
 use std::alloc::{AllocError, Global};
 use std::fmt;
@@ -14,33 +14,13 @@ pub enum Letters {
 
 // The value of a digit.
 fn value_of(letters: Letters, digit: u8) -> Option<u8>
-    ensures value { result ≡ hex_value (row_of letters) digit }
+    ensures value { result ≡ hex_value letters digit }
     ensures below { IfSome result (λ n. n < 16) }
 {
-    match letters {
-        Letters::Upper => upper_value(digit),
-        Letters::Lower => lower_value(digit),
-    }
-}
-
-fn upper_value(digit: u8) -> Option<u8>
-    ensures value { result ≡ hex_value upper digit }
-    ensures below { IfSome result (λ n. n < 16) }
-{
-    match digit {
-        b'0'..=b'9' => Some(digit - b'0'),
-        b'A'..=b'F' => Some(digit - b'A' + 10),
-        _ => None,
-    }
-}
-
-fn lower_value(digit: u8) -> Option<u8>
-    ensures value { result ≡ hex_value lower digit }
-    ensures below { IfSome result (λ n. n < 16) }
-{
-    match digit {
-        b'0'..=b'9' => Some(digit - b'0'),
-        b'a'..=b'f' => Some(digit - b'a' + 10),
+    match (letters, digit) {
+        (_, b'0'..=b'9') => Some(digit - b'0'),
+        (Letters::Upper, b'A'..=b'F') => Some(digit - b'A' + 10),
+        (Letters::Lower, b'a'..=b'f') => Some(digit - b'a' + 10),
         _ => None,
     }
 }

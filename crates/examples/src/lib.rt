@@ -1,4 +1,5 @@
-// Examples of type 3 payloads: a kind of message at every limit, tests, and payloads as text.
+// What the programs share: octets, signalling bits and refusals as text, and lines that are answered. And a kind of message at
+// every limit, with tests.
 #![tactic(auto)]
 
 pub mod bits;

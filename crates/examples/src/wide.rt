@@ -10,7 +10,7 @@ ghost use Rattle.examples.specs.WideLaws.{wide_lawful, marks_compare};
 use refusal::{KindFault, Refusal};
 use type3::kind::Kind;
 
-#[derive(Clone, Copy, PartialEq, Eq, Debug)]
+#[derive(Clone, Copy, PartialEq)]
 pub enum Mark {
     One,
     Two,
@@ -18,7 +18,7 @@ pub enum Mark {
 }
 
 // Why eight octets are no mark: one that is to be zero is not, or no mark has the code.
-#[derive(Clone, Copy, Debug, PartialEq, Eq)]
+#[derive(Clone, Copy)]
 pub struct NoMark;
 
 // The conversions here are by hand, since derived ones have no contract.

@@ -1,5 +1,5 @@
 -- Receiving messages. Assumes nothing.
-use Rattle.std.specs.Prelude.{ℕ, Bool, false, cond, Some, None, Ok, Err, Option, Result, nat_lt}
+use Rattle.std.specs.Prelude.{ℕ, Bool, false, cond, List, codes, Some, None, Ok, Err, Option, Result, nat_lt}
 use Rattle.refusal.specs.declared.Refusal.{Refusal}
 use Rattle.type3.specs.Kinds.{Meaning}
 use Rattle.type3.specs.declared.payload.Payload.{Payload}
@@ -11,6 +11,12 @@ use Rattle.placing.specs.declared.receiver.Class.{Class}
 use Rattle.placing.specs.declared.receiver.Class.TheVariants.{Event, Confirmed, Recovered}
 use Rattle.placing.specs.declared.receiver.MessageNews.{MessageNews}
 use Rattle.placing.specs.Placing.{place}
+
+-- what is printed of news' class
+abbrev pub text_of : Class → List ℕ
+text_of Event = codes "event"
+text_of Confirmed = codes "confirmed"
+text_of Recovered = codes "recovered"
 
 -- The receiving half of a message stream: the latest news, and the message in force.
 pub record Inbound (M : Type 0) : Type 0 where

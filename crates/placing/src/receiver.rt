@@ -1,12 +1,13 @@
 // The receiving half of a message stream.
-ghost use Rattle.std.specs.Prelude.{◌≡◌};
-ghost use Rattle.placing.specs.Receiving.{new_receiver, class_of, receive};
+ghost use Rattle.std.specs.Prelude.{◌≡◌, Some};
+ghost use Rattle.placing.specs.Receiving.{text_of, new_receiver, class_of, receive};
 ghost use Rattle.placing.specs.InForce.{InForceIsTheLatestNews};
 
 use crate::span::Labelling;
 use crate::stream::{Moved, Stream, Told};
 use refusal::Refusal;
 use refusal::times::Time;
+use std::fmt;
 use std::marker::Model;
 use type3::bounded::Redundancy;
 use type3::kind::Kind;
@@ -19,6 +20,18 @@ pub enum Class {
     Event,
     Confirmed,
     Recovered,
+}
+
+impl fmt::Display for Class {
+    ghost output = { λ class. Some (text_of class) };
+
+    fn fmt<W: fmt::Write>(&self, f: &mut fmt::Formatter<W>) -> fmt::Result {
+        match self {
+            Class::Event => write!(f, "event"),
+            Class::Confirmed => write!(f, "confirmed"),
+            Class::Recovered => write!(f, "recovered"),
+        }
+    }
 }
 
 #[derive(Clone, Copy, Debug, PartialEq, Eq)]

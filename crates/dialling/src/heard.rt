@@ -1,8 +1,9 @@
 // What the far end makes of the digits that it hears.
 ghost use Rattle.std.specs.Prelude.{◌≡◌, IfOk};
-ghost use Rattle.dial.specs.Heard.{silent, ends, after, is_new, new_digit, hears, tones_heard};
+ghost use Rattle.dialling.specs.Heard.{ends, after, is_new, new_digit, hears, tones_heard};
 
-use crate::script::{Reply, Tone};
+use crate::tone::Tone;
+use kinds::cas::CasBits;
 use kinds::digit::{Digit, TONE_OFF};
 use network::call::Answer;
 use placing::receiver::Class;
@@ -10,29 +11,26 @@ use placing::stream::Told;
 use std::alloc::{AllocError, Global};
 use trunk::answer::Arrived;
 
+// The answer to a call.
+pub type Reply = Answer<Digit, CasBits>;
+
 // A key whose tone is on, and where it began.
-#[derive(Clone, Copy, Debug, PartialEq, Eq)]
+#[derive(Clone, Copy)]
 pub struct Begun {
     pub key: Digit,
     pub at: u64,
 }
 
 // The tone that is on, if one is, and where the one before ended. Times are positions of news.
-#[derive(Clone, Copy, Debug, PartialEq, Eq)]
+#[derive(Clone, Copy)]
 pub struct Ear {
     on: Option<Begun>,
     ended: u64,
 }
 
 impl Ear {
-    pub fn new() -> Ear
-        ensures { result ≡ silent }
-    {
-        Ear { on: None, ended: 0 }
-    }
-
     // A new digit at a position ends the tone that is on, which is answered, and begins one if it is a key.
-    pub fn hear(&mut self, digit: Digit, position: u64) -> Option<Tone>
+    fn hear(&mut self, digit: Digit, position: u64) -> Option<Tone>
         ensures value { result ≡ ends self.old position }
         ensures after { self.new ≡ after self.old digit position }
     {
@@ -44,14 +42,10 @@ impl Ear {
         if self.on.is_some() {
             self.ended = position;
         }
-        self.on = if digit.code() == TONE_OFF {
-            None
-        } else {
-            Some(Begun {
-                key: digit,
-                at: position,
-            })
-        };
+        self.on = (digit.code() != TONE_OFF).then_some(Begun {
+            key: digit,
+            at: position,
+        });
         tone
     }
 
@@ -92,7 +86,7 @@ pub fn tones_heard(heap: Global, answers: &[Reply]) -> Result<Vec<Tone>, AllocEr
     ensures { IfOk result (λ tones. tones.items ≡ tones_heard answers.now) }
 {
     let mut tones = Vec::new(heap);
-    let mut ear = Ear::new();
+    let mut ear = Ear { on: None, ended: 0 };
     for answer in answers {
         if let Some(tone) = ear.answer(answer) {
             tones.push(tone)?;

@@ -13,9 +13,9 @@ use Rattle.trunk.specs.declared.answer.Arrived.{Arrived}
 use Rattle.trunk.specs.declared.answer.Arrived.TheVariants as arrived
 use Rattle.network.specs.declared.call.Answer.{Answer}
 use Rattle.network.specs.declared.call.Answer.TheVariants as answer
-use Rattle.dial.specs.declared.script.Tone.{Tone}
-use Rattle.dial.specs.declared.heard.Begun.{Begun}
-use Rattle.dial.specs.declared.heard.Ear.{Ear}
+use Rattle.dialling.specs.declared.tone.Tone.{Tone}
+use Rattle.dialling.specs.declared.heard.Begun.{Begun}
+use Rattle.dialling.specs.declared.heard.Ear.{Ear}
 
 -- a refresh that confirms a message says nothing new
 abbrev pub is_new : Class → Bool

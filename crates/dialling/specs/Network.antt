@@ -1,12 +1,12 @@
 -- What the network does. Assumes nothing.
 use Rattle.std.specs.Prelude.{ℕ, ◌+◌, ◌-◌, ◌/◌, ◌%◌, ◌^◌, min, cond, bit_xor, List, [], ◌∷◌, slice_set, slice_index, Some, None, Option, ◌==◌, nat_lt}
-use Rattle.dial.specs.declared.carriage.Sort.{Sort}
-use Rattle.dial.specs.declared.carriage.Sort.TheVariants.{Message, Audio}
-use Rattle.dial.specs.declared.carriage.Fate.{Fate}
-use Rattle.dial.specs.declared.carriage.Fate.TheVariants.{Lost, Arrives, Twice, HeldBack, Spoiled, WithForeign}
-use Rattle.dial.specs.declared.carriage.State.{State}
-use Rattle.dial.specs.declared.carriage.State.TheVariants as state
-use Rattle.dial.specs.declared.carriage.Delivery.{Delivery}
+use Rattle.dialling.specs.declared.fates.Sort.{Sort}
+use Rattle.dialling.specs.declared.fates.Sort.TheVariants.{Message, Audio}
+use Rattle.dialling.specs.declared.fates.Fate.{Fate}
+use Rattle.dialling.specs.declared.fates.Fate.TheVariants.{Lost, Arrives, Twice, HeldBack, Spoiled, WithForeign}
+use Rattle.dialling.specs.declared.fates.State.{State}
+use Rattle.dialling.specs.declared.fates.State.TheVariants as state
+use Rattle.dialling.specs.declared.fates.Delivery.{Delivery}
 
 -- a time of the near end's clock, on the far end's (times are below 2^64 in the program)
 abbrev pub far_time : ℕ → ℕ
@@ -34,15 +34,17 @@ abbrev pub fate : Sort → ℕ → Fate
 fate Message n = message_fate n
 fate Audio n = audio_fate n
 
--- how long packets take, and two of their fates
+-- when a packet arrives to which nothing happens
 abbrev pub arrival : Sort → ℕ → ℕ
 arrival Message sent = sent + 40 + sent / 2
 arrival Audio sent = sent + 30
 
+-- how long after that it arrives once more
 abbrev pub again : Sort → ℕ
 again Message = 700
 again Audio = 3
 
+-- for how long it is held back
 abbrev pub held_back : Sort → ℕ
 held_back Message = 1000
 held_back Audio = 8

@@ -1,6 +1,6 @@
 use Rattle.std.proofs.Common.{◌≡◌, ◌++◌, drop}
-use Rattle.dial.specs.Heard.{tones_from, tones_heard}
-use Rattle.dial.proofs.heard.tones_heard.Given as goal
+use Rattle.dialling.specs.Heard.{tones_from, tones_heard}
+use Rattle.dialling.proofs.heard.tones_heard.Given as goal
 
 -- with those of the answers that are left, the tones so far are all
 abbrev pub invariant-loop-answer : goal.invariant-loop-answer

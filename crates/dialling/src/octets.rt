@@ -1,0 +1,33 @@
+// The octets of what arrives.
+ghost use Rattle.std.specs.Prelude.{◌≡◌, ◌<◌, take, length};
+ghost use Rattle.dialling.specs.Network.{spoiled};
+
+use type3::payload::LONGEST;
+use type3::written::Written;
+
+// The octet of which a bit is changed.
+const THIRD: usize = 2;
+
+// The first octets, as many as the longest type 3 packet has. (The audio packets here have ten.)
+fn buffer(octets: &[u8]) -> [u8; LONGEST]
+    ensures { take (length octets.now) result ≡ take LONGEST octets.now }
+{
+    let mut buffer = [0; LONGEST];
+    let count = octets.len().min(LONGEST);
+    buffer[..count].copy_from_slice(&octets[..count]);
+    buffer
+}
+
+pub fn copied(octets: &[u8]) -> Written<LONGEST>
+    ensures { result ≡ take LONGEST octets.now }
+{
+    Written::new(buffer(octets), octets.len())
+}
+
+pub fn spoiled(octets: &[u8]) -> Written<LONGEST>
+    ensures { THIRD < length octets.now → result ≡ spoiled (take LONGEST octets.now) }
+{
+    let mut buffer = buffer(octets);
+    buffer[THIRD] ^= 1;
+    Written::new(buffer, octets.len())
+}
