@@ -29,15 +29,15 @@ module _ {P Q : Type 0} (p : Meaning P) (q : Meaning Q) (lp : Lawful p) (lq : La
   in_twelve Second t room = ap (λ r. (r.0, with_outs s s.audio_out s.first_out r.1)) (due_fits q lq s.second_out t room)
 
   -- in the first of twelve octets
-  module _ (which : Which) (t room n : ℕ) (xs : List ℕ) (e : n ≡ min room 12) (twelve : length xs ≡ 12) where
-    in_first : due p q s which t (length (take n xs)) ≡ due p q s which t room
-    in_first =
+  module _ (which : Which) (t room n : ℕ) (xs : List ℕ) (twelve : length xs ≡ 12) where
+    in_first : n ≡ min room 12 → due p q s which t (length (take n xs)) ≡ due p q s which t room
+    in_first e =
         let count : length (take n xs) ≡ min room 12 = length-take n xs ∙ ap (min n) twelve ∙ omega arith in
         ap (due p q s which t) count ∙ in_twelve which t room
 
     pub refused_in_first : (r : Result (Option ℕ) Refusal) (f : Refusal) → r ≡ counted (due p q s which t (length (take n xs))).0 → r ≡ Err f
-        → ◌≡◌ {A = Result (Option (List ℕ)) Refusal} (Err f) (due p q s which t room).0
-    refused_in_first r f is refused = refused_back (due p q s which t room).0 f (sym (rw in_first at is) ∙ refused)
+        → n ≡ min room 12 → ◌≡◌ {A = Result (Option (List ℕ)) Refusal} (Err f) (due p q s which t room).0
+    refused_in_first r f is refused e = refused_back (due p q s which t room).0 f (sym (rw (in_first e) at is) ∙ refused)
 
-    pub after_in_first : (w : End P Q) → w ≡ (due p q s which t (length (take n xs))).1 → w ≡ (due p q s which t room).1
-    after_in_first w is = rw in_first at is
+    pub after_in_first : (w : End P Q) → w ≡ (due p q s which t (length (take n xs))).1 → n ≡ min room 12 → w ≡ (due p q s which t room).1
+    after_in_first w is e = rw (in_first e) at is
