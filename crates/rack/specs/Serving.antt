@@ -49,7 +49,7 @@ abbrev pub event_of : Service → ℕ → Result (Either Digit CasBits) Refusal 
 event_of s t (Ok m) = let r = trunk.event s t m in (told (λ _. Done) r.0, r.1)
 event_of s t (Err f) = (Err f, s)
 
--- No packet is longer than twelve octets, so more room is as twelve.
+-- No type 3 packet is longer than twelve octets, so more room is as twelve.
 abbrev pub serve : Service → ServiceCall → Result Answer Refusal × Service
 serve s (Audio t place n) = label s t place n
 serve s (Event t m) = event_of s t (made m)
