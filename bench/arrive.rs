@@ -1,5 +1,5 @@
-// One end of a trunk that receives, without proof: audio under a profile, and digits and signalling bits as type 3 payloads. Written
-// from docs/ alone, beside which the proved end is measured.
+// One end of a trunk that receives, without proof: audio under a profile, and digits and signalling bits as type 3 payloads.
+// Written from docs/ alone. The proved end is measured beside it.
 
 pub const LAST_TIME: u64 = (1 << 40) - 1;
 

@@ -5,7 +5,7 @@ ghost use Rattle.arrivals.specs.Answers.{to_digit, to_cas};
 use examples::refused::Refused;
 use kinds::cas::CasBits;
 use kinds::digit::Digit;
-use placing::receiver::{Class, MessageNews};
+use placing::receiver::MessageNews;
 use placing::stream::{Moved, Told};
 use refusal::Refusal;
 use std::fmt;
@@ -88,12 +88,7 @@ fn show_news<T: Copy, W: fmt::Write>(
     news: &MessageNews<T>,
     f: &mut fmt::Formatter<W>,
 ) -> fmt::Result {
-    let class = match news.class {
-        Class::Event => "event",
-        Class::Confirmed => "confirmed",
-        Class::Recovered => "recovered",
-    };
-    write!(f, "{class} {}", news.redundancy.get())?;
+    write!(f, "{} {}", news.class, news.redundancy.get())?;
     show_moved(&news.moved, f)
 }
 

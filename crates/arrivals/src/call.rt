@@ -2,7 +2,7 @@
 use profile::entry::Entry;
 use profile::examples::Example;
 
-// (Times are numbers here, and octets text: both are read where they are used.)
+// (A time past the last, and octets that are malformed, are found where they are used.)
 #[derive(Clone, Copy)]
 pub enum Call<'a> {
     // `new`: all streams begin anew, and labels are stamps
@@ -32,7 +32,7 @@ pub enum Packet<'a> {
 }
 
 impl<'a> Call<'a> {
-    // `None` where the words are no call, or a number is out of its range. (Words are parsed here, and decide nothing later.)
+    // `None` where the words are no call, or a number is out of its range.
     pub fn of(words: &[&'a str]) -> Option<Call<'a>> {
         match words {
             ["new"] => Some(Call::New),

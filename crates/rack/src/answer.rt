@@ -3,7 +3,7 @@ use crate::refused::Refused;
 use examples::hex::LowerHex;
 use kinds::cas::CasBits;
 use kinds::digit::Digit;
-use placing::receiver::{Class, MessageNews};
+use placing::receiver::MessageNews;
 use placing::stream::{Moved, Told};
 use refusal::Refusal;
 use std::fmt;
@@ -92,12 +92,7 @@ fn show_news<T: Copy, W: fmt::Write>(
     news: &MessageNews<T>,
     f: &mut fmt::Formatter<W>,
 ) -> fmt::Result {
-    let class = match news.class {
-        Class::Event => "event",
-        Class::Confirmed => "confirmed",
-        Class::Recovered => "recovered",
-    };
-    write!(f, "{stream} {class} {}", news.redundancy.get())?;
+    write!(f, "{stream} {} {}", news.class, news.redundancy.get())?;
     show_moved(&news.moved, f)
 }
 

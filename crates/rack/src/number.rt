@@ -1,8 +1,8 @@
 // Numbers in a line.
 use std::str::FromStr;
 
-// Decimal digits alone, without zeros in front; and no greater than the type holds. (What the type itself reads has a sign, or
-// zeros in front.)
+// Decimal digits alone, without zeros in front; and no greater than the type holds. (The type's own `parse` also takes a plus
+// sign, and zeros in front.)
 pub fn number<N: FromStr>(word: &str) -> Option<N>
 where
     N::Err: Drop,

@@ -53,7 +53,7 @@ impl Message {
     }
 }
 
-// So many octets of audio. (Which, does not matter: they are not read.)
+// So many octets of audio. (Which octets does not matter: they are not read.)
 fn audio(end: &mut Service, time: u64, place: usize, length: u16) -> Result<Answer, Refusal>
     ensures value { result ≡ (label end.old time place length).0 }
     ensures after { end.new ≡ (label end.old time place length).1 }

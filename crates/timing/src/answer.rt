@@ -1,4 +1,5 @@
 // What a call is answered, in one line.
+use crate::room::MOST_ROOM;
 use examples::hex::Hex;
 use examples::refused::Refused;
 use refusal::Refusal;
@@ -13,7 +14,7 @@ pub enum Answer {
     // the audio stream is new, under a profile
     Loaded,
     Accepted,
-    Octets(Written<16>),
+    Octets(Written<MOST_ROOM>),
     Nothing,
     // an octet was changed that is none of a packet's
     Touched,

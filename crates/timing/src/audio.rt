@@ -33,6 +33,7 @@ impl Audio {
     pub fn answer(&mut self, time: u64, place: usize, length: u8) -> Answer
         ensures value { result ≡ to_audio (audio self.old.profile self.old.sender time place length).0 }
         ensures after { self.new.sender ≡ (audio self.old.profile self.old.sender time place length).1 }
+        ensures same { self.new.profile ≡ self.old.profile }
     {
         let octets = [0; 255];
         let payload = &octets[..usize::from(length)];

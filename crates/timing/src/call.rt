@@ -25,7 +25,7 @@ pub enum Call {
 }
 
 impl Call {
-    // `None` where the words are no call, or a number is out of its range. (Words are parsed here, and decide nothing later.)
+    // `None` where the words are no call, or a number is out of its range.
     pub fn of(words: &[&str]) -> Option<Call> {
         match words {
             ["new"] => Some(Call::New),

@@ -4,7 +4,7 @@ ghost use Rattle.sending.specs.Sending.{event, due};
 ghost use Rattle.timing.specs.Answers.{to_event, count};
 
 use crate::answer::Answer;
-use crate::room::Room;
+use crate::room::{MOST_ROOM, Room};
 use refusal::Refusal;
 use sending::sender::Sender;
 use type3::kind::Kind;
@@ -27,7 +27,7 @@ pub fn answer_event<K: Kind>(sender: &mut Sender<K>, time: u64, message: K::Mess
 pub fn answer_due<K: Kind>(sender: &mut Sender<K>, time: u64, room: Room) -> Answer
     ensures { sender.new ≡ (due K.Kind.model sender.old time room.octets).1 }
 {
-    let mut octets = [UNWRITTEN; 16];
+    let mut octets = [UNWRITTEN; MOST_ROOM];
     let told = sender.due(time, &mut octets[..room.get()]);
     let mut rest = octets.iter().skip(count_of(told));
     if rest.any(|octet| *octet != UNWRITTEN) {

@@ -1,19 +1,23 @@
-// The length of a buffer, up to 16 octets. (It has a ghost field, and no model: a match on an enum that holds a struct with a
+// The length of a buffer, with a bound. (It has a ghost field, and no model: a match on an enum that holds a struct with a
 // model gets no proof today.)
 ghost use Rattle.std.specs.Prelude.{◌≡◌, true, Some, None, if◌then◌else◌, nat_le};
 ghost use Rattle.std.specs.Option.{option_map};
+ghost use Rattle.timing.specs.declared.room.TheConstants.{MOST_ROOM};
+
+// In octets.
+pub const MOST_ROOM: usize = 16;
 
 #[derive(Clone, Copy)]
 pub struct Room {
     octets: usize,
-    ghost bound: { nat_le octets 16 ≡ true },
+    ghost bound: { nat_le octets MOST_ROOM ≡ true },
 }
 
 impl Room {
     pub fn new(octets: usize) -> Option<Room>
-        ensures { option_map (λ room. room.octets) result ≡ (if nat_le octets 16 then Some octets else None) }
+        ensures { option_map (λ room. room.octets) result ≡ (if nat_le octets MOST_ROOM then Some octets else None) }
     {
-        if octets <= 16 {
+        if octets <= MOST_ROOM {
             Some(Room { octets })
         } else {
             None

@@ -6,13 +6,13 @@ use kinds::cas::CasBits;
 use kinds::digit::Digit;
 use refusal::Refusal;
 use std::fmt;
-use type3::payload::Payload;
+use type3::payload::{LONGEST, Payload};
 use type3::written::Written;
 
 // A refusal is an answer here, and no error of the program.
 #[derive(Drop)]
 pub enum Answer {
-    Octets(Written<12>),
+    Octets(Written<LONGEST>),
     Digit(Payload<Digit>),
     Cas(Payload<CasBits>),
     Wide(Payload<Mark>),

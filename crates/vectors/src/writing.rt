@@ -8,7 +8,7 @@ use kinds::digits::Digits;
 use refusal::Refusal;
 use type3::bounded::{Redundancy, Stamp};
 use type3::kind::Kind;
-use type3::payload::Payload;
+use type3::payload::{LONGEST, Payload};
 use type3::writing::write_payload;
 use type3::written::Written;
 
@@ -29,7 +29,7 @@ enum Message {
 }
 
 impl Asked {
-    // `None` where a word is not what it is to be. (Words are parsed here, and decide nothing later.)
+    // `None` where a word is not what it is to be.
     pub fn of(kind: &str, words: &[&str]) -> Option<Asked> {
         let [redundancy, stamp, words @ ..] = words else {
             return None;
@@ -57,7 +57,7 @@ impl Asked {
             stamp: self.stamp,
             message,
         };
-        let mut octets = [0; 12];
+        let mut octets = [0; LONGEST];
         match write_payload::<K>(payload, &mut octets) {
             Ok(count) => Answer::Octets(Written::new(octets, count)),
             Err(refusal) => Answer::Refused(refusal),
