@@ -10,7 +10,7 @@ ghost use Rattle.examples.specs.WideLaws.{wide_lawful, marks_compare};
 use refusal::{KindFault, Refusal};
 use type3::kind::Kind;
 
-#[derive(Clone, Copy, PartialEq)]
+#[derive(Clone, Copy, PartialEq, Debug)]
 pub enum Mark {
     One,
     Two,
