@@ -67,6 +67,6 @@ deliveries_by sort time WithForeign = sound_at time ∷ at state.Foreign time �
 abbrev pub deliveries : Sort → ℕ → ℕ → List (Option Delivery)
 deliveries sort number sent = deliveries_by sort (arrival sort sent) (fate sort number)
 
--- the lowest bit of the third octet is changed
+-- the lowest bit of the third octet, if there is one, is changed
 abbrev pub spoiled : List ℕ → List ℕ
 spoiled octets = slice_set octets 2 (bit_xor (slice_index octets 2) 1)

@@ -1,5 +1,5 @@
 // The octets of what arrives.
-ghost use Rattle.std.specs.Prelude.{◌≡◌, ◌<◌, take, length};
+ghost use Rattle.std.specs.Prelude.{◌≡◌, take, length};
 ghost use Rattle.dialling.specs.Network.{spoiled};
 
 use type3::payload::LONGEST;
@@ -25,7 +25,7 @@ pub fn copied(octets: &[u8]) -> Written<LONGEST>
 }
 
 pub fn spoiled(octets: &[u8]) -> Written<LONGEST>
-    ensures { THIRD < length octets.now → result ≡ spoiled (take LONGEST octets.now) }
+    ensures { result ≡ spoiled (take LONGEST octets.now) }
 {
     let mut buffer = buffer(octets);
     buffer[THIRD] ^= 1;
