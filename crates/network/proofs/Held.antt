@@ -1,10 +1,10 @@
 -- What is kept from call to call: what is known of all that the two ends have sent and received. Assumes nothing.
 use Rattle.std.proofs.Common.{◌≡◌, ℕ, false, List, [], ◌∷◌, ◌++◌, length, Some, None, Ok, Err, Option, Result, sym, refl, ap, ◌∙◌, subst, true≢false, arith}
+use Rattle.std.specs.List.{filter, cons_option}
 use Rattle.std.proofs.lemmas.Grind.{common_steps}
 use Rattle.std.specs.Option.{option_map, option_flatten}
 use Rattle.std.proofs.lemmas.Option.{none-some, same_Some}
 use Rattle.refusal.specs.declared.Refusal.{Refusal}
-use Rattle.placing.specs.Lists.{those, add}
 use Rattle.type3.specs.Kinds.{Meaning}
 use Rattle.type3.specs.declared.payload.Either.{Either}
 use Rattle.type3.specs.declared.payload.Either.TheVariants as either
@@ -36,13 +36,13 @@ use Rattle.network.proofs.Arrives.{Sent, HeldAt}
 module _ {P Q : Type 0} where
   -- no sound arrival is at the other side
   none_if : (b : Side) (n : Stream) (h : List (Moment P Q)) (m : Moment P Q) (x : Arrival P Q) (o : Option (Packet P Q)) → same_side b x.side ≡ false
-      → those (on_it h m b n) (add (sound_if x o) []) ≡ []
+      → filter (on_it h m b n) (cons_option (sound_if x o) []) ≡ []
   none_if b n h m x None f = refl
   none_if b n h m x (Some k) f = grind (arith, common_steps)
 
   -- nor does a call there bring one
   none_by : (b : Side) (n : Stream) (h : List (Moment P Q)) (m : Moment P Q) (side : Side) (c : Call P Q) (r : AnswerTo c) → same_side b side ≡ false
-      → those (on_it h m b n) (add (option_flatten (option_map (sound h) (arrival_by side c r))) []) ≡ []
+      → filter (on_it h m b n) (cons_option (option_flatten (option_map (sound h) (arrival_by side c r))) []) ≡ []
   none_by b n h m side (arrive t u o i) r f = none_if b n h m (arriving side t u o i (news_of r)) (packet_from (other side) h i) f
   none_by b n h m side c r f = refl
 

@@ -1,5 +1,6 @@
 -- What a list of calls tells of a stream that is received, and what one more sound arrival is there. Assumes nothing.
 use Rattle.std.proofs.Common.{◌≡◌, ℕ, ◌≤◌, Bool, true, false, cond, ◌&&◌, leb, List, [], ◌∷◌, ◌++◌, is_some, Some, None, Ok, Err, Option, Result, sym, refl, ap, ◌∙◌, subst, arith}
+use Rattle.std.specs.List.{list_all, filter, cons_option}
 use Rattle.std.proofs.lemmas.Grind.{common_steps}
 use Rattle.std.proofs.lemmas.Bool.{leb-true, ltb-true, and_parts}
 use Rattle.std.proofs.lemmas.Option.{none-some, same_Some}
@@ -9,7 +10,7 @@ use Rattle.placing.specs.declared.stream.Placed.{Placed}
 use Rattle.placing.specs.declared.stream.Moved.{Moved}
 use Rattle.placing.specs.declared.stream.Told.{Told}
 use Rattle.placing.specs.declared.stream.Told.TheVariants.{News, Repeat, Late}
-use Rattle.placing.specs.Lists.{all, those, greatest, add}
+use Rattle.placing.specs.Lists.{greatest}
 use Rattle.placing.specs.Placing.{told, placed_after}
 use Rattle.placing.specs.Arrivals.{Point, Tells, is_news}
 use Rattle.placing.proofs.Hearing.{Hears, Passed, Near, Next, next}
@@ -24,7 +25,7 @@ use Rattle.network.proofs.Frame.{Right}
 use Rattle.network.proofs.Longer.{packet_stays, arrivals_snoc, sound_now, on_it, sounds_stay, sounds_more}
 
 -- all of two lists pass a test where all of each do
-all_append : {X : Type 0} (test : X → Bool) (xs ys : List X) → all test (xs ++ ys) ≡ all test xs && all test ys
+all_append : {X : Type 0} (test : X → Bool) (xs ys : List X) → list_all test (xs ++ ys) ≡ list_all test xs && list_all test ys
 all_append test [] ys = refl
 all_append test (x ∷ xs) ys = grind (arith, common_steps, all_append test xs ys)
 
@@ -40,12 +41,12 @@ module _ {P Q : Type 0} where
 
   -- all that arrived at a side came by a time
   abbrev pub Come : Side → List (Moment P Q) → ℕ → Type 0
-  Come a h t = all (λ x. leb x.time t) (arrivals a h) ≡ true
+  Come a h t = list_all (λ x. leb x.time t) (arrivals a h) ≡ true
 
   -- If all came by a time, the last call included, so did all before it, and the arrival that it brought, if any.
   come_parts : (h : List (Moment P Q)) (m : Moment P Q) (a : Side) (t : ℕ) → Come a (h ++ (m ∷ [])) t
-      → Come a h t × (all (λ x. leb x.time t) (those (λ x. same_side a x.side) (add (arrival m) [])) ≡ true)
-  come_parts h m a t e = and_parts (all (λ x. leb x.time t) (arrivals a h)) _ (rw (arrivals_snoc h m a, all_append) at e)
+      → Come a h t × (list_all (λ x. leb x.time t) (filter (λ x. same_side a x.side) (cons_option (arrival m) [])) ≡ true)
+  come_parts h m a t e = and_parts (list_all (λ x. leb x.time t) (arrivals a h)) _ (rw (arrivals_snoc h m a, all_append) at e)
 
   pub come_before : (h : List (Moment P Q)) (m : Moment P Q) (a : Side) (t : ℕ) → Come a (h ++ (m ∷ [])) t → Come a h t
   come_before h m a t e = (come_parts h m a t e).0

@@ -1,12 +1,12 @@
 -- A history with one more moment: what was made, what arrived and what was accepted then. Assumes nothing.
 use Rattle.std.proofs.Common.{◌≡◌, ℕ, zero, suc, Bool, true, cond, ◌&&◌, List, [], ◌∷◌, ◌++◌, take, Some, None, Option, refl, ap, ◌∙◌, append-nil}
-use Rattle.std.specs.List.{slice_get}
+use Rattle.std.specs.List.{slice_get, filter, cons_option}
 use Rattle.std.specs.Option.{option_map, option_flatten}
 use Rattle.std.proofs.lemmas.Option.{none-some}
+use Rattle.std.proofs.lemmas.List.Elements.{filter-append}
 use Rattle.type3.specs.declared.payload.Either.{Either}
 use Rattle.sending.specs.declared.event.Event.{Event}
-use Rattle.placing.specs.Lists.{those, add}
-use Rattle.placing.proofs.Snoc.{those_append, gather_snoc}
+use Rattle.placing.proofs.Snoc.{gather_snoc}
 use Rattle.trunk.specs.declared.answer.Which.{Which}
 use Rattle.network.specs.declared.side.Side.{Side}
 use Rattle.network.specs.Names.{same_side, same_kind, kind_of, Stream, same_stream}
@@ -63,10 +63,10 @@ module _ {P Q : Type 0} (h : List (Moment P Q)) (m : Moment P Q) where
   accepted_at side = cond (same_side side m.side) (accepted m.call m.answer) None
 
   abbrev pub of_kind : Which → Option (Event (Either P Q)) → List (Event (Either P Q))
-  of_kind which o = those (λ e. same_kind (kind_of e.message) which) (add o [])
+  of_kind which o = filter (λ e. same_kind (kind_of e.message) which) (cons_option o [])
 
   pub events_snoc : (side : Side) (which : Which) → events side which (h ++ (m ∷ [])) ≡ events side which h ++ of_kind which (accepted_at side)
-  events_snoc side which = rw (gather_snoc, those_append) refl
+  events_snoc side which = rw (gather_snoc, filter-append) refl
 
   -- a call that brings no event of a kind
   pub events_stay : (side : Side) (which : Which) → of_kind which (accepted_at side) ≡ [] → events side which (h ++ (m ∷ [])) ≡ events side which h
@@ -74,8 +74,8 @@ module _ {P Q : Type 0} (h : List (Moment P Q)) (m : Moment P Q) where
 
   -- ---- arrivals
 
-  pub arrivals_snoc : (side : Side) → arrivals side (h ++ (m ∷ [])) ≡ arrivals side h ++ those (λ x. same_side side x.side) (add (arrival m) [])
-  arrivals_snoc side = rw (gather_snoc, those_append) refl
+  pub arrivals_snoc : (side : Side) → arrivals side (h ++ (m ∷ [])) ≡ arrivals side h ++ filter (λ x. same_side side x.side) (cons_option (arrival m) [])
+  arrivals_snoc side = rw (gather_snoc, filter-append) refl
 
   -- the sound arrival of the last call, if it is one
   abbrev pub sound_now : Option (Sound P Q)
@@ -84,11 +84,11 @@ module _ {P Q : Type 0} (h : List (Moment P Q)) (m : Moment P Q) where
   abbrev pub on_it : Side → Stream → Sound P Q → Bool
   on_it side stream s = same_side side s.arrival.side && same_stream (stream_of s.packet.content) stream
 
-  sounds_snoc : (side : Side) (stream : Stream) → sounds side stream (h ++ (m ∷ [])) ≡ sounds side stream h ++ those (on_it side stream) (add sound_now [])
-  sounds_snoc side stream = rw (gather_snoc, those_append) refl
+  sounds_snoc : (side : Side) (stream : Stream) → sounds side stream (h ++ (m ∷ [])) ≡ sounds side stream h ++ filter (on_it side stream) (cons_option sound_now [])
+  sounds_snoc side stream = rw (gather_snoc, filter-append) refl
 
   -- what is not sound, or on another stream, or at the other side, leaves a stream as it was; what is on it is one more
-  pub sounds_stay : (side : Side) (stream : Stream) → those (on_it side stream) (add sound_now []) ≡ [] → sounds side stream (h ++ (m ∷ [])) ≡ sounds side stream h
+  pub sounds_stay : (side : Side) (stream : Stream) → filter (on_it side stream) (cons_option sound_now []) ≡ [] → sounds side stream (h ++ (m ∷ [])) ≡ sounds side stream h
   sounds_stay side stream e = rw (sounds_snoc side stream, e) (append-nil (sounds side stream h))
 
   pub sounds_more : (side : Side) (stream : Stream) (z : Sound P Q) → sound_now ≡ Some z → on_it side stream z ≡ true

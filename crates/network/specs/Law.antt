@@ -1,5 +1,6 @@
 -- The law over every list of calls on two ends, in terms of the calls and their answers alone. Assumes nothing.
 use Rattle.std.specs.Prelude.{◌≡◌, ℕ, ◌+◌, ◌*◌, Bool, true, false, cond, not, ◌&&◌, ◌||◌, List, [], length, bytes_eq, ℤ, pos, ◌-ℤ◌, is_some, Some, None, Option, ◌==◌, ◌≢◌, nat_le, nat_lt, unsigned_abs}
+use Rattle.std.specs.List.{list_all, filter}
 use Rattle.std.specs.Option.{option_map, option_map_or, option_flatten}
 use Rattle.refusal.specs.Questions.{is_time}
 use Rattle.crc10.specs.Changes.{changed, found}
@@ -7,7 +8,7 @@ use Rattle.type3.specs.Kinds.{Meaning}
 use Rattle.type3.specs.declared.payload.Either.{Either}
 use Rattle.profile.specs.declared.entry.Entry.{Entry}
 use Rattle.profile.specs.Labels.{span_of}
-use Rattle.placing.specs.Lists.{all, those, last, greatest, gather, everywhere, Everywhere}
+use Rattle.placing.specs.Lists.{last, greatest, gather, everywhere, Everywhere}
 use Rattle.trunk.specs.declared.answer.Which.{Which}
 use Rattle.trunk.specs.End.{is_uui, in_force}
 use Rattle.network.specs.declared.side.Side.{Side}
@@ -55,7 +56,7 @@ module _ {P Q : Type 0} where
   -- the sound arrivals on a stream of a side
   abbrev pub sounds : Side → Stream → List (Moment P Q) → List (Sound P Q)
   sounds side stream h =
-      those (λ s. same_side side s.arrival.side && same_stream (stream_of s.packet.content) stream)
+      filter (λ s. same_side side s.arrival.side && same_stream (stream_of s.packet.content) stream)
       (gather (λ before m. option_flatten (option_map (sound before) (arrival m))) [] h)
 
   -- those before a sound arrival, on its stream
@@ -82,7 +83,7 @@ module _ {P Q : Type 0} where
   abbrev pub network_rule : List (Moment P Q) → Arrival P Q → Bool
   network_rule before x =
       is_time x.time
-      && all (λ y. nat_le y.time x.time) (arrivals x.side before)
+      && list_all (λ y. nat_le y.time x.time) (arrivals x.side before)
       && (copied x (original before x) || foreign x)
 
   -- the age: the arrival time, less the time that the packet was made for
@@ -112,11 +113,11 @@ module _ {P Q : Type 0} where
   -- sound, and made for a later time than every sound arrival before it on its stream
   abbrev pub later_than_all : List (Moment P Q) → Option (Sound P Q) → Bool
   later_than_all before None = false
-  later_than_all before (Some s) = all (λ t. nat_lt t.packet.time s.packet.time) (earlier before s)
+  later_than_all before (Some s) = list_all (λ t. nat_lt t.packet.time s.packet.time) (earlier before s)
 
   -- the latest of the arrivals that were news
   abbrev pub latest_news : List (Sound P Q) → Option (Sound P Q)
-  latest_news ss = last (those (λ s. is_some s.arrival.news) ss)
+  latest_news ss = last (filter (λ s. is_some s.arrival.news) ss)
 
   -- the time between the two that packets were made for; 0 for the first
   abbrev pub Since : Option (Sound P Q) → Sound P Q → ℕ → Type 0

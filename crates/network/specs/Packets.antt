@@ -1,6 +1,6 @@
 -- What the calls of a list made and took, read off the calls and their answers. Assumes nothing.
 use Rattle.std.specs.Prelude.{ℕ, cond, List, [], take, Some, None, Ok, Err, Option, Result, ◌==◌, nat_le}
-use Rattle.std.specs.List.{slice_get}
+use Rattle.std.specs.List.{slice_get, filter}
 use Rattle.std.specs.Option.{option_map}
 use Rattle.refusal.specs.declared.Refusal.{Refusal}
 use Rattle.type3.specs.Octets.{redundancy_in}
@@ -8,7 +8,7 @@ use Rattle.type3.specs.declared.payload.Either.{Either}
 use Rattle.type3.specs.declared.payload.Either.TheVariants.{First, Second}
 use Rattle.sending.specs.declared.event.Event.{Event}
 use Rattle.placing.specs.declared.stream.Told.TheVariants.{News, Repeat, Late}
-use Rattle.placing.specs.Lists.{those, greatest, gather}
+use Rattle.placing.specs.Lists.{greatest, gather}
 use Rattle.trunk.specs.declared.answer.Which.{Which}
 use Rattle.trunk.specs.declared.answer.Arrived.{Arrived}
 use Rattle.trunk.specs.declared.answer.Arrived.TheVariants as on
@@ -46,7 +46,7 @@ pub record Arrival (P Q : Type 0) : Type 0 where
 
 -- of events, the message of the one with the latest time not after a time
 abbrev pub had_of : {M : Type 0} → ℕ → List (Event M) → Option M
-had_of t es = option_map (λ e. e.message) (greatest (λ e. e.time) (those (λ e. nat_le e.time t) es))
+had_of t es = option_map (λ e. e.message) (greatest (λ e. e.time) (filter (λ e. nat_le e.time t) es))
 
 module _ {P Q : Type 0} where
   -- ---- events, and what a side had
@@ -62,7 +62,7 @@ module _ {P Q : Type 0} where
   -- the accepted events of a kind at a side
   abbrev pub events : Side → Which → List (Moment P Q) → List (Event (Either P Q))
   events side which h =
-      those (λ e. same_kind (kind_of e.message) which)
+      filter (λ e. same_kind (kind_of e.message) which)
       (gather (λ before m. cond (same_side side m.side) (accepted m.call m.answer) None) [] h)
 
   -- the message that a side had at a time: that of its accepted event with the latest time not after it
@@ -129,4 +129,4 @@ module _ {P Q : Type 0} where
 
   -- the arrivals at a side
   abbrev pub arrivals : Side → List (Moment P Q) → List (Arrival P Q)
-  arrivals side h = those (λ x. same_side side x.side) (gather (λ before m. arrival m) [] h)
+  arrivals side h = filter (λ x. same_side side x.side) (gather (λ before m. arrival m) [] h)

@@ -1,6 +1,6 @@
 -- A list of calls on two ends, with its answers, for which every premise of the law holds: the law is not empty. Assumes nothing.
 use Rattle.std.specs.Prelude.{◌≡◌, ℕ, Bool, true, false, not, ◌&&◌, List, [], ◌∷◌, take, is_some, Some, None, Ok, Err, Option, ◌==◌, ◌≢◌, refl}
-use Rattle.std.specs.List.{slice_get}
+use Rattle.std.specs.List.{slice_get, list_all}
 use Rattle.std.specs.Option.{option_map, option_map_or, option_and_then}
 use Rattle.refusal.specs.declared.Refusal.TheVariants.{Sending, Type3, Arrival as AtArrival}
 use Rattle.refusal.specs.declared.SendingFault.TheVariants.{NotLater}
@@ -18,7 +18,7 @@ use Rattle.profile.specs.declared.entry.Entry.{Entry}
 use Rattle.profile.specs.declared.examples.Example.TheVariants.{A}
 use Rattle.placing.specs.declared.stream.Told.TheVariants.{Repeat, Late}
 use Rattle.placing.specs.declared.receiver.Class.TheVariants.{Event, Confirmed, Recovered}
-use Rattle.placing.specs.Lists.{all, gather}
+use Rattle.placing.specs.Lists.{gather}
 use Rattle.trunk.specs.declared.answer.Which.TheVariants as which
 use Rattle.trunk.specs.declared.answer.Arrived.TheVariants as on
 use Rattle.trunk.specs.End.{in_force}
@@ -165,11 +165,11 @@ at i find = option_map (find (take i witness)) (option_and_then arrival (slice_g
 
 -- the near end made a packet at a place of the list, and no arrival at the far end copies it
 abbrev pub lost : ℕ → Bool
-lost i = is_some (packet_from Near witness (Some i)) && all (λ x. not (option_map_or (λ j. i == j) x.copies false)) (arrivals Far witness)
+lost i = is_some (packet_from Near witness (Some i)) && list_all (λ x. not (option_map_or (λ j. i == j) x.copies false)) (arrivals Far witness)
 
 -- What the answers alone do not show, in the words of the law.
 pub record SortsOccur : Type 0 where
-  pub copies_of_7_are_lost : all lost (14 ∷ 15 ∷ 16 ∷ []) ≡ true
+  pub copies_of_7_are_lost : list_all lost (14 ∷ 15 ∷ 16 ∷ []) ≡ true
   pub arrival_8_is_spoiled : at 8 (λ before x. option_map_or (λ p. spoiled p x) (original before x) false) ≡ Some true
   pub arrival_9_is_foreign : at 9 (λ before x. foreign x) ≡ Some true
   pub arrival_11_is_a_sound_copy : at 11 (λ before x. is_some (sound before x)) ≡ Some true

@@ -1,6 +1,7 @@
 -- A stream of arrivals holds the one that was made for the latest time, which was the latest news; and what one more arrival is
 -- there. It is said of things of any type that have a point and are news or not. Assumes nothing.
 use Rattle.std.proofs.Common.{◌≡◌, ℕ, ◌+◌, ◌-◌, ◌*◌, ◌<◌, ◌≤◌, Bool, true, false, cond, ltb, List, [], ◌∷◌, ◌++◌, ◌-ℤ◌, nat_abs, Some, None, Ok, Option, Result, sym, refl, ap, ◌∙◌, subst, arith}
+use Rattle.std.specs.List.{list_all, filter}
 use Rattle.std.proofs.lemmas.Bool.{lt-ltb, le-ltb, both_ways}
 use Rattle.std.specs.Option.{option_map}
 use Rattle.refusal.specs.declared.Refusal.{Refusal}
@@ -8,7 +9,7 @@ use Rattle.placing.specs.declared.stream.Placed.{Placed}
 use Rattle.placing.specs.declared.stream.Moved.{Moved}
 use Rattle.placing.specs.declared.stream.Told.{Told}
 use Rattle.placing.specs.declared.stream.Told.TheVariants.{News, Repeat, Late}
-use Rattle.placing.specs.Lists.{all, those, last, greatest}
+use Rattle.placing.specs.Lists.{last, greatest}
 use Rattle.placing.specs.Placing.{told, placed_after}
 use Rattle.placing.specs.Arrivals.{Point, age, Tells, expected_beside, is_news}
 use Rattle.placing.proofs.Nearby.{Order, order, level_with, short, long}
@@ -21,7 +22,7 @@ module _ {X : Type 0} (point : X → Point) (news : X → Bool) (span unit : ℕ
   time x = (point x).time
 
   abbrev pub latest_news : List X → Option X
-  latest_news xs = last (those news xs)
+  latest_news xs = last (filter news xs)
 
   -- after these the stream holds y; start is the time that the first was made for
   pub record Holds (start : ℕ) (before : List X) (s : Option Placed) (y : X) : Type 0 where
@@ -47,7 +48,7 @@ module _ {X : Type 0} (point : X → Point) (news : X → Bool) (span unit : ℕ
   -- the arrival x is answered by r, and z is what is then kept of it
   pub record Next (before : List X) (s : Option Placed) (x : Point) (r : Result (Told Moved) Refusal) : Type 0 where
     pub as_expected : r ≡ expected_beside (start_of before) (option_map point (greatest time before)) x
-    pub exactly : is_news r ≡ all (λ b. ltb (time b) x.time) before
+    pub exactly : is_news r ≡ list_all (λ b. ltb (time b) x.time) before
     pub since : (n : Moved) → r ≡ Ok (News n) → Passed (latest_news before) x n.elapsed
     pub hears : (z : X) → point z ≡ x → news z ≡ is_news r → Hears (before ++ (z ∷ [])) (placed_after s x.label x.arrival r)
     pub leads : (z : X) → point z ≡ x → greatest time (before ++ (z ∷ [])) ≡ cond (is_news r) (Some z) (greatest time before)
@@ -71,7 +72,7 @@ module _ {X : Type 0} (point : X → Point) (news : X → Bool) (span unit : ℕ
   }
 
   module _ (first : X) (xs : List X) (s : Option Placed) (y : X) (h : Holds (time first) (first ∷ xs) s y) (x : Point) where
-    later : all (λ b. ltb (time b) x.time) (first ∷ xs) ≡ ltb (time y) x.time
+    later : list_all (λ b. ltb (time b) x.time) (first ∷ xs) ≡ ltb (time y) x.time
     later = all_below time (first ∷ xs) x.time ∙ ap (λ o. below time o x.time) h.leads
 
     expects : expected_beside (time first) (option_map point (greatest time (first ∷ xs))) x ≡ expected_beside (time first) (Some (point y)) x

@@ -1,5 +1,6 @@
 -- The message in force is that of the latest news. Assumes nothing.
 use Rattle.std.proofs.Common.{◌≡◌, Bool, cond, List, [], ◌∷◌, Some, None, Option, Result, refl, ap, ◌∙◌, arith}
+use Rattle.std.specs.List.{filter}
 use Rattle.std.proofs.lemmas.Grind.{common_steps}
 use Rattle.std.specs.Option.{option_or, option_map}
 use Rattle.refusal.specs.declared.Refusal.{Refusal}
@@ -8,7 +9,7 @@ use Rattle.type3.specs.declared.payload.Payload.{Payload}
 use Rattle.placing.specs.declared.stream.Placed.{Placed}
 use Rattle.placing.specs.declared.stream.Moved.{Moved}
 use Rattle.placing.specs.declared.stream.Told.{Told}
-use Rattle.placing.specs.Lists.{those, last}
+use Rattle.placing.specs.Lists.{last}
 use Rattle.placing.specs.Placing.{place}
 use Rattle.placing.specs.Receiving.{Inbound, new_receiver, receive_by, receive}
 use Rattle.placing.specs.Arrivals.{is_news}
@@ -29,7 +30,7 @@ module _ {M : Type 0} (k : Meaning M) where
   forced s x r placed = grind (arith, common_steps)
 
   abbrev latest_of : List (Heard k) → Option M
-  latest_of hs = option_map (λ h. h.arrival.says.message) (last (those (λ h. is_news h.answer) hs))
+  latest_of hs = option_map (λ h. h.arrival.says.message) (last (filter (λ h. is_news h.answer) hs))
 
   from : (s : Inbound M) (xs : List (Arrival k)) → (after k s xs).force ≡ option_or (latest_of (heard k s xs)) s.force
   from s [] = refl
@@ -39,7 +40,7 @@ module _ {M : Type 0} (k : Meaning M) where
       let h : Heard k = record { arrival = x; answer = r.0 } in
       from r.1 xs
       ∙ ap (option_or (latest_of (heard k r.1 xs))) (forced s x.says p.0 p.1)
-      ∙ one_more (λ h. h.arrival.says.message) h (those (λ h. is_news h.answer) (heard k r.1 xs)) s.force (is_news r.0)
+      ∙ one_more (λ h. h.arrival.says.message) h (filter (λ h. is_news h.answer) (heard k r.1 xs)) s.force (is_news r.0)
 
   pub in_force_is_the_latest_news : InForceIsTheLatestNews k
   in_force_is_the_latest_news xs = from new_receiver xs ∙ or_none (latest_of (heard k new_receiver xs))

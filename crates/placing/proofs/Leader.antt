@@ -1,9 +1,10 @@
 -- The one with the greatest number, of several the first: with one more at the end, and who is below a number. Assumes nothing.
 use Rattle.std.proofs.Common.{◌≡◌, ℕ, Bool, true, cond, ◌&&◌, ltb, List, [], ◌∷◌, ◌++◌, Some, None, Option, sym, refl, ap, ◌∙◌, arith}
+use Rattle.std.specs.List.{list_all}
 use Rattle.std.proofs.lemmas.Bool.{and_parts}
 use Rattle.std.proofs.lemmas.Bool.Decides.{nat_tests}
 use Rattle.std.proofs.lemmas.Grind.{common_steps}
-use Rattle.placing.specs.Lists.{all, greater, greatest}
+use Rattle.placing.specs.Lists.{greater, greatest}
 
 module _ {X : Type 0} (number : X → ℕ) where
   abbrev pub below : Option X → ℕ → Bool
@@ -15,7 +16,7 @@ module _ {X : Type 0} (number : X → ℕ) where
   below_more x (Some y) k = grind (arith, nat_tests)
 
   -- all are below a number exactly where the greatest is
-  pub all_below : (xs : List X) (k : ℕ) → all (λ y. ltb (number y) k) xs ≡ below (greatest number xs) k
+  pub all_below : (xs : List X) (k : ℕ) → list_all (λ y. ltb (number y) k) xs ≡ below (greatest number xs) k
   all_below [] k = refl
   all_below (x ∷ xs) k = ap (λ c. ltb (number x) k && c) (all_below xs k) ∙ below_more x (greatest number xs) k
 
@@ -42,9 +43,9 @@ module _ {X : Type 0} (number : X → ℕ) where
     more_passes x None p q = p
     more_passes x (Some y) p q = grind (arith, common_steps)
 
-    all_passed : (xs : List X) → all passes xs ≡ true → passed (greatest number xs) ≡ true
+    all_passed : (xs : List X) → list_all passes xs ≡ true → passed (greatest number xs) ≡ true
     all_passed [] h = refl
-    all_passed (x ∷ xs) h = let p = and_parts (passes x) (all passes xs) h in more_passes x (greatest number xs) p.0 (all_passed xs p.1)
+    all_passed (x ∷ xs) h = let p = and_parts (passes x) (list_all passes xs) h in more_passes x (greatest number xs) p.0 (all_passed xs p.1)
 
-    pub greatest_passes : (xs : List X) (y : X) → all passes xs ≡ true → greatest number xs ≡ Some y → passes y ≡ true
+    pub greatest_passes : (xs : List X) (y : X) → list_all passes xs ≡ true → greatest number xs ≡ Some y → passes y ≡ true
     greatest_passes xs y h e = sym (ap passed e) ∙ all_passed xs h

@@ -1,5 +1,6 @@
 -- Every list of arrivals on a new stream is placed rightly. Assumes nothing.
 use Rattle.std.proofs.Common.{◌≡◌, ℕ, ◌*◌, Bool, true, ltb, leb, List, [], ◌∷◌, ◌++◌, ◌-ℤ◌, nat_abs, Some, None, Ok, Option, Result, sym, refl, ap, ◌∙◌, subst}
+use Rattle.std.specs.List.{list_all}
 use Rattle.std.proofs.lemmas.Bool.{ltb-true, leb-true, and_parts}
 use Rattle.std.specs.Option.{option_map}
 use Rattle.refusal.specs.Questions.{is_time}
@@ -8,7 +9,7 @@ use Rattle.placing.specs.declared.stream.Placed.{Placed}
 use Rattle.placing.specs.declared.stream.Moved.{Moved}
 use Rattle.placing.specs.declared.stream.Told.{Told}
 use Rattle.placing.specs.declared.stream.Told.TheVariants.{News}
-use Rattle.placing.specs.Lists.{all, greatest, everywhere, Everywhere}
+use Rattle.placing.specs.Lists.{greatest, everywhere, Everywhere}
 use Rattle.placing.specs.Placing.{told, placed_after}
 use Rattle.placing.specs.Arrivals.{Point, age, Tells, Moment, history, near_age, aged, in_order, expected_beside, expected, start_of, is_news, points, Since, PlacesRightly}
 use Rattle.placing.proofs.Leader.{greatest_passes}
@@ -47,7 +48,7 @@ module _ (span unit : ℕ) where
       → (y : Moment) → greatest (λ m. m.point.time) before ≡ Some y → Near point news span unit y x
   beside_leader before x ordered ages y e =
       let leads = greatest_point before ∙ ap (option_map point) e in
-      let o = and_parts (is_time x.time) (all (λ z. leb z.arrival x.arrival) (points before)) ordered in
+      let o = and_parts (is_time x.time) (list_all (λ z. leb z.arrival x.arrival) (points before)) ordered in
       record {
         order = leb-true y.point.arrival x.arrival (greatest_passes (λ (z : Point). z.time) (λ z. leb z.arrival x.arrival) (points before) y.point o.1 leads);
         ages = ltb-true (2 * nat_abs (age x -ℤ age y.point)) span (sym (ap (near_age span x) leads) ∙ ages);
@@ -55,7 +56,7 @@ module _ (span unit : ℕ) where
 
   record Rest (before ms : List Moment) : Type 0 where
     as_expected : Everywhere (λ before m. m.answer ≡ expected (points before) m.point) before ms
-    exactly : Everywhere (λ before m. is_news m.answer ≡ all (λ b. ltb b.point.time m.point.time) before) before ms
+    exactly : Everywhere (λ before m. is_news m.answer ≡ list_all (λ b. ltb b.point.time m.point.time) before) before ms
     since : Everywhere (λ before m. Since (latest_news point news span unit before) m.point m.answer) before ms
 
   rest : (xs : List Point) (before : List Moment) (s : Option Placed) → Hears point news span unit before s
@@ -68,7 +69,7 @@ module _ (span unit : ℕ) where
       let e = points_snoc before m in
       let o = and_parts (in_order (points before) x) (everywhere in_order (points before ++ (x ∷ [])) xs) ordered in
       let a = and_parts (aged span (points before) x) (everywhere (aged span) (points before ++ (x ∷ [])) xs) ages in
-      let t = and_parts (is_time x.time) (all (λ z. leb z.arrival x.arrival) (points before)) o.0 in
+      let t = and_parts (is_time x.time) (list_all (λ z. leb z.arrival x.arrival) (points before)) o.0 in
       let n = next point news span unit before s x h tells.0 (leb-true x.time 1099511627775 t.0) (beside_leader before x o.0 a.0) in
       let more = rest xs (before ++ (m ∷ [])) (placed_after s x.label x.arrival r) (n.hears m refl refl)
       (subst (λ l. Everywhere (λ before x. Tells span unit x) l xs) (sym e) tells.1)

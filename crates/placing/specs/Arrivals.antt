@@ -1,13 +1,14 @@
 -- The arrivals on a new stream, and what is true of how they are placed, in terms of the times that packets were made for.
 -- Assumes nothing.
 use Rattle.std.specs.Prelude.{◌≡◌, ℕ, ◌+◌, ◌-◌, ◌*◌, ◌/◌, ◌%◌, ◌<◌, ◌≤◌, Bool, true, false, cond, ◌&&◌, List, [], ◌∷◌, ℤ, pos, ◌-ℤ◌, Some, None, Ok, Err, Option, Result, ◌==◌, nat_le, nat_lt, unsigned_abs}
+use Rattle.std.specs.List.{list_all, filter}
 use Rattle.refusal.specs.Questions.{is_time}
 use Rattle.refusal.specs.declared.Refusal.{Refusal}
 use Rattle.placing.specs.declared.stream.Placed.{Placed}
 use Rattle.placing.specs.declared.stream.Moved.{Moved}
 use Rattle.placing.specs.declared.stream.Told.{Told}
 use Rattle.placing.specs.declared.stream.Told.TheVariants.{News, Repeat, Late}
-use Rattle.placing.specs.Lists.{all, those, last, greatest, everywhere, Everywhere}
+use Rattle.placing.specs.Lists.{last, greatest, everywhere, Everywhere}
 use Rattle.placing.specs.Nearest.{Agrees, labels_apart, nearest}
 use Rattle.placing.specs.Placing.{place}
 
@@ -70,7 +71,7 @@ aged span before x = near_age span x (greatest (λ y. y.time) before)
 
 -- arrivals do not run back, and packets are made for times
 abbrev pub in_order : List Point → Point → Bool
-in_order before x = is_time x.time && all (λ y. nat_le y.arrival x.arrival) before
+in_order before x = is_time x.time && list_all (λ y. nat_le y.arrival x.arrival) before
 
 -- what an arrival is to be answered, beside those before it: the first of them, and the one made for the latest time
 abbrev pub expected_beside : ℕ → Option Point → Point → Result (Told Moved) Refusal
@@ -105,9 +106,9 @@ pub record PlacedRightly (ms : List Moment) : Type 0 where
   -- each answer is the one that the times tell
   pub as_expected : Everywhere (λ before m. m.answer ≡ expected (points before) m.point) [] ms
   -- news exactly when made for a later time than all before
-  pub news_exactly_when_later : Everywhere (λ before m. is_news m.answer ≡ all (λ b. nat_lt b.point.time m.point.time) before) [] ms
+  pub news_exactly_when_later : Everywhere (λ before m. is_news m.answer ≡ list_all (λ b. nat_lt b.point.time m.point.time) before) [] ms
   -- the elapsed time is that since the news before
-  pub elapsed_since_news : Everywhere (λ before m. Since (last (those (λ b. is_news b.answer) before)) m.point m.answer) [] ms
+  pub elapsed_since_news : Everywhere (λ before m. Since (last (filter (λ b. is_news b.answer) before)) m.point m.answer) [] ms
 
 -- Every list of arrivals on a new stream is placed rightly, where labels tell the time, arrivals are in order, and ages keep
 -- their rule.

@@ -1,12 +1,13 @@
 -- The message in force on a new stream of messages, after a list of arrivals on it. Assumes nothing.
 use Rattle.std.specs.Prelude.{◌≡◌, ℕ, List, [], ◌∷◌, Result}
+use Rattle.std.specs.List.{filter}
 use Rattle.std.specs.Option.{option_map}
 use Rattle.refusal.specs.declared.Refusal.{Refusal}
 use Rattle.type3.specs.Kinds.{Meaning}
 use Rattle.type3.specs.declared.payload.Payload.{Payload}
 use Rattle.placing.specs.declared.stream.Told.{Told}
 use Rattle.placing.specs.declared.receiver.MessageNews.{MessageNews}
-use Rattle.placing.specs.Lists.{those, last}
+use Rattle.placing.specs.Lists.{last}
 use Rattle.placing.specs.Arrivals.{is_news}
 use Rattle.placing.specs.Receiving.{Inbound, new_receiver, receive}
 
@@ -32,4 +33,4 @@ module _ {M : Type 0} (k : Meaning M) where
   abbrev pub InForceIsTheLatestNews : Type 0
   InForceIsTheLatestNews =
       (xs : List Arrival) → (after new_receiver xs).force
-      ≡ option_map (λ h. h.arrival.says.message) (last (those (λ h. is_news h.answer) (heard new_receiver xs)))
+      ≡ option_map (λ h. h.arrival.says.message) (last (filter (λ h. is_news h.answer) (heard new_receiver xs)))

@@ -1,15 +1,6 @@
 -- Lists in order of time: what stands in them, each beside those before it. Assumes nothing.
 use Rattle.std.specs.Prelude.{ℕ, Bool, true, cond, ◌&&◌, List, [], ◌∷◌, ◌++◌, Some, None, Option, nat_lt}
-
--- each passes the test
-abbrev pub all : {X : Type 0} → (X → Bool) → List X → Bool
-all test [] = true
-all test (x ∷ xs) = test x && all test xs
-
--- those that pass the test
-abbrev pub those : {X : Type 0} → (X → Bool) → List X → List X
-those test [] = []
-those test (x ∷ xs) = cond (test x) (x ∷ those test xs) (those test xs)
+use Rattle.std.specs.List.{cons_option}
 
 abbrev pub last_or : {X : Type 0} → X → List X → X
 last_or x [] = x
@@ -29,15 +20,10 @@ abbrev pub greatest : {X : Type 0} → (X → ℕ) → List X → Option X
 greatest number [] = None
 greatest number (x ∷ xs) = Some (greater number x (greatest number xs))
 
--- one more in front, if there is one
-abbrev pub add : {Y : Type 0} → Option Y → List Y → List Y
-add None ys = ys
-add (Some y) ys = y ∷ ys
-
 -- what is found at each of a list, beside those before it
 abbrev pub gather : {X Y : Type 0} → (List X → X → Option Y) → List X → List X → List Y
 gather find before [] = []
-gather find before (x ∷ xs) = add (find before x) (gather find (before ++ (x ∷ [])) xs)
+gather find before (x ∷ xs) = cons_option (find before x) (gather find (before ++ (x ∷ [])) xs)
 
 -- each of a list is so, beside those before it: as a test, and as a statement
 abbrev pub everywhere : {X : Type 0} → (List X → X → Bool) → List X → List X → Bool
