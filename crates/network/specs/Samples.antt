@@ -1,5 +1,5 @@
--- Made by tests/law/make.py: random lists of calls on two ends, and of entries that do not load, with the answers of an oracle that was
--- written from docs/ alone. Assumes nothing.
+-- Made by tests/law/make.py: random lists of calls on two ends, and of entries that do not load, with the answers of an oracle that
+-- was written from docs/ alone. Assumes nothing.
 use Rattle.std.specs.Prelude.{◌≡◌, ℕ, true, false, List, [], ◌∷◌, map, replicate, Some, None, Ok, Err, Option, refl}
 use Rattle.refusal.specs.declared.Refusal.{Refusal}
 use Rattle.refusal.specs.declared.Refusal.TheVariants.{Profile, Sending, Arrival, Type3, Kind, Placing}
