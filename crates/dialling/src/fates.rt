@@ -4,7 +4,7 @@ ghost use Rattle.dialling.specs.Network.{fate, arrival, again, held_back, at, de
 
 use refusal::times::Time;
 
-// Packets of a sort are numbered by themselves, and take their own time.
+// Packets of a sort are numbered by themselves, and have a delay of their own.
 #[derive(Clone, Copy, PartialEq)]
 pub enum Sort {
     Message,
