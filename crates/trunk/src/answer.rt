@@ -1,4 +1,7 @@
 // What an end answers to an arrival, and which of its kinds is meant.
+ghost use Rattle.std.specs.Prelude.{◌≡◌};
+ghost use Rattle.trunk.specs.Streams.{on_stream};
+
 use placing::receiver::MessageNews;
 use placing::stream::{Moved, Told};
 
@@ -16,10 +19,33 @@ pub struct AudioNews {
     pub moved: Moved,
 }
 
-// The stream of an arrival, and what the arrival is there. News of a message stream has its class.
+/// The streams of an end, each way: one of audio, and one of each kind of message.
+#[derive(Clone, Copy, Debug, PartialEq, Eq)]
+pub enum Stream {
+    Audio,
+    Messages(Which),
+}
+
+/// What an arrival is: news of audio or of a kind of message, which has its class; or, with the name of its stream, a repeat of the
+/// latest news, or late, made for an earlier time than that.
 #[derive(Clone, Copy, Debug, PartialEq, Eq)]
 pub enum Arrived<X, Y> {
-    Audio(Told<AudioNews>),
-    First(Told<MessageNews<X>>),
-    Second(Told<MessageNews<Y>>),
+    Audio(AudioNews),
+    First(MessageNews<X>),
+    Second(MessageNews<Y>),
+    Repeat(Stream),
+    Late(Stream),
+}
+
+impl<X, Y> Arrived<X, Y> {
+    /// A stream's answer, as the end's.
+    pub(crate) fn on(stream: Stream, told: Told<Arrived<X, Y>>) -> Arrived<X, Y>
+        ensures { result ≡ on_stream stream (λ news. news) told }
+    {
+        match told {
+            Told::News(news) => news,
+            Told::Repeat => Arrived::Repeat(stream),
+            Told::Late => Arrived::Late(stream),
+        }
+    }
 }
