@@ -6,8 +6,9 @@ use Rattle.profile.specs.declared.entry.Entry.{Entry}
 use Rattle.placing.specs.Lists.{everywhere, Everywhere}
 use Rattle.trunk.specs.declared.answer.Which.{Which}
 use Rattle.trunk.specs.End.{in_force}
+use Rattle.trunk.specs.declared.answer.Stream.TheVariants.{Messages}
 use Rattle.network.specs.declared.side.Side.{Side}
-use Rattle.network.specs.Names.{other, messages}
+use Rattle.network.specs.Names.{other}
 use Rattle.network.specs.Runs.{Turn, Moment, Ends, begun, end_at, taken, moment, after, history}
 use Rattle.network.specs.Packets.{Named, Arrival, had, arrival}
 use Rattle.network.specs.Law.{Sound, Origin, sound, sounds, latest_news, later_than_all, passes, each_arrival, network_rule, age_rule, ToldRightly}
@@ -21,7 +22,7 @@ module _ {P Q : Type 0} where
   -- what is in force is right
   abbrev pub Forced : List (Moment P Q) → Ends P Q → Type 0
   Forced h w =
-      (side : Side) (which : Which) (s : Sound P Q) → latest_news (sounds side (messages which) h) ≡ Some s
+      (side : Side) (which : Which) (s : Sound P Q) → latest_news (sounds side (Messages which) h) ≡ Some s
       → in_force (end_at w side) which ≡ had (other side) which s.packet.time h
 
   -- Something is kept: it holds at the start, each call keeps it and is answered rightly, and what is in force is right.

@@ -15,9 +15,10 @@ use Rattle.trunk.specs.declared.answer.Which.{Which}
 use Rattle.trunk.specs.declared.answer.Which.TheVariants.{First, Second}
 use Rattle.trunk.specs.End as trunk
 use Rattle.trunk.specs.End.{End, started, with_outs, with_ins, arrive_audio, arrive_read, arrive_questions}
+use Rattle.trunk.specs.declared.answer.Stream.{Stream}
+use Rattle.trunk.specs.declared.answer.Stream.TheVariants.{Audio, Messages}
 use Rattle.network.specs.declared.side.Side.{Side}
-use Rattle.network.specs.Names.{other, same_side, same_kind, kind_of, Stream, messages, same_stream}
-use Rattle.network.specs.Names as name
+use Rattle.network.specs.Names.{other, same_side, same_kind, kind_of, same_stream}
 use Rattle.network.specs.Runs.{Call, audio, event, due, arrive, AnswerTo, Moment, Ends, end_at}
 use Rattle.network.specs.Packets.{entry, Packet, Arrival, stream_of, accepted, events, made, made_at, packet_from, news_of, arrival_by, arrival}
 use Rattle.network.specs.Law.{sound, sounds, sound_if}
@@ -66,14 +67,14 @@ module _ {P Q : Type 0} (p : Meaning P) (q : Meaning Q) (es : List Entry) where
 module _ {P Q : Type 0} {p : Meaning P} {q : Meaning Q} {es : List Entry} where
   -- audio packets, with one more call
   pub more_audio : {h : List (Moment P Q)} (m : Moment P Q) {b : Side} {s : End P Q} → Sent p q es h b s
-      → ((x : Packet P Q) → made_at b h (Some m) ≡ Some x → stream_of x.content ≡ name.audio → AudioMade es x)
-      → (i : Option ℕ) (x : Packet P Q) → packet_from b (h ++ (m ∷ [])) i ≡ Some x → stream_of x.content ≡ name.audio → AudioMade es x
+      → ((x : Packet P Q) → made_at b h (Some m) ≡ Some x → stream_of x.content ≡ Audio → AudioMade es x)
+      → (i : Option ℕ) (x : Packet P Q) → packet_from b (h ++ (m ∷ [])) i ≡ Some x → stream_of x.content ≡ Audio → AudioMade es x
   more_audio {h} m {b} sent now i x e f = elim (whence h m b i x e) [ old is ↦ sent.of_audio i x is f | made_now is ↦ now x is f ]
 
   -- a call after which the same is received, by the packet that it makes and the streams after it
   held_by : {h : List (Moment P Q)} (m : Moment P Q) {b : Side} {s : End P Q} → HeldAt p q es h b s → ((n : Stream) → sounds b n (h ++ (m ∷ [])) ≡ sounds b n h)
       → (free : ℕ) (first : sending.Stream P) (second : sending.Stream Q)
-      → ((x : Packet P Q) → made_at b h (Some m) ≡ Some x → stream_of x.content ≡ name.audio → AudioMade es x)
+      → ((x : Packet P Q) → made_at b h (Some m) ≡ Some x → stream_of x.content ≡ Audio → AudioMade es x)
       → ((w : Which) → Sends (meaning p q w) (inj P Q w) b w (h ++ (m ∷ [])) (out w (with_outs s free first second)))
       → HeldAt p q es (h ++ (m ∷ [])) b (with_outs s free first second)
   held_by m x same free first second of_audio of_kinds = record {
@@ -96,14 +97,14 @@ module _ {P Q : Type 0} {p : Meaning P} {q : Meaning Q} {es : List Entry} where
 
     -- a call on the stream of a kind leaves that of the other kind as it was
     on_lane : (m : Moment P Q) → arrival m ≡ None → (w : Which) (r : sending.Stream (Of P Q w))
-        → ((y : Packet P Q) → made_at a h (Some m) ≡ Some y → stream_of y.content ≡ messages w)
+        → ((y : Packet P Q) → made_at a h (Some m) ≡ Some y → stream_of y.content ≡ Messages w)
         → ((v : Which) → same_kind w v ≡ false → events a v (h ++ (m ∷ [])) ≡ events a v h)
         → Sends (meaning p q w) (inj P Q w) a w (h ++ (m ∷ [])) r → HeldAt p q es (h ++ (m ∷ [])) a (with_out w s r)
     on_lane m e w r stream others new =
-        held_by m x (hears_on m e) s.audio_out _ _ (λ y i f. absurd (true≢false (ap (same_stream name.audio) (sym f ∙ stream y i))))
+        held_by m x (hears_on m e) s.audio_out _ _ (λ y i f. absurd (true≢false (ap (same_stream Audio) (sym f ∙ stream y i))))
         (lane_by_lane sending.Stream w r s.first_out s.second_out (λ v. Sends (meaning p q v) (inj P Q v) a v (h ++ (m ∷ []))) new
         (λ v f. idle m (x.sent.of_kinds v) (others v f)
-        (λ y i g. true≢false (sym (kind_itself w) ∙ ap (same_stream (messages w)) (sym (stream y i) ∙ g) ∙ f))))
+        (λ y i g. true≢false (sym (kind_itself w) ∙ ap (same_stream (Messages w)) (sym (stream y i) ∙ g) ∙ f))))
 
     module _ (t place : ℕ) (o : List ℕ) where
       abbrev by_audio : Result ℕ Refusal × ℕ
@@ -112,8 +113,8 @@ module _ {P Q : Type 0} {p : Meaning P} {q : Meaning Q} {es : List Entry} where
       abbrev ma : Moment P Q
       ma = record { side = a; call = audio t place o; answer = by_audio.0 }
 
-      made_audio : (y : Packet P Q) (r : Result ℕ Refusal) → by_audio.0 ≡ r → made h a (audio t place o) r ≡ Some y → (stream_of y.content ≡ name.audio) × AudioMade es y
-      made_audio y (Ok u) is e = subst (λ z. (stream_of z.content ≡ name.audio) × AudioMade es z) (same_Some (record { time = t; content = entry place; uui = u; octets = o }) y e)
+      made_audio : (y : Packet P Q) (r : Result ℕ Refusal) → by_audio.0 ≡ r → made h a (audio t place o) r ≡ Some y → (stream_of y.content ≡ Audio) × AudioMade es y
+      made_audio y (Ok u) is e = subst (λ z. (stream_of z.content ≡ Audio) × AudioMade es z) (same_Some (record { time = t; content = entry place; uui = u; octets = o }) y e)
           (refl, audio_made es s.audio_out t place u o (rw x.profile_is at is))
       made_audio y (Err f) is e = absurd (none-some y e)
 
@@ -121,7 +122,7 @@ module _ {P Q : Type 0} {p : Meaning P} {q : Meaning Q} {es : List Entry} where
       held_audio =
           held_by ma x (hears_on ma refl) by_audio.1 s.first_out s.second_out (λ y e f. (made_audio y by_audio.0 refl (rw (itself a) at e)).1)
           (λ w. idle ma (x.sent.of_kinds w) (brings_none h ma a w refl)
-          (λ y e f. true≢false (ap (same_stream name.audio) (sym (made_audio y by_audio.0 refl (rw (itself a) at e)).0 ∙ f))))
+          (λ y e f. true≢false (ap (same_stream Audio) (sym (made_audio y by_audio.0 refl (rw (itself a) at e)).0 ∙ f))))
 
     -- an event of a kind
     module _ (w : Which) (t : ℕ) (y : Of P Q w) where

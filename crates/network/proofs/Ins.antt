@@ -15,8 +15,9 @@ use Rattle.placing.specs.Placing.{told, placed_after}
 use Rattle.placing.specs.Arrivals.{Point, Tells, is_news}
 use Rattle.placing.proofs.Hearing.{Hears, Passed, Near, Next, next}
 use Rattle.trunk.specs.declared.answer.Arrived.{Arrived}
+use Rattle.trunk.specs.declared.answer.Stream.{Stream}
 use Rattle.network.specs.declared.side.Side.{Side}
-use Rattle.network.specs.Names.{other, same_side, Stream, same_stream}
+use Rattle.network.specs.Names.{other, same_side, same_stream}
 use Rattle.network.specs.Runs.{arrive, Moment}
 use Rattle.network.specs.Packets.{Content, Packet, Named, Arrival, stream_of, packet_from, news_of, arrival, arrivals}
 use Rattle.network.specs.Law.{Sound, sound, sounds, intact, span, age_rule, latest_news, Since, Origin}

@@ -8,8 +8,9 @@ use Rattle.type3.specs.declared.payload.Either.{Either}
 use Rattle.sending.specs.declared.event.Event.{Event}
 use Rattle.placing.proofs.Snoc.{gather_snoc}
 use Rattle.trunk.specs.declared.answer.Which.{Which}
+use Rattle.trunk.specs.declared.answer.Stream.{Stream}
 use Rattle.network.specs.declared.side.Side.{Side}
-use Rattle.network.specs.Names.{same_side, same_kind, kind_of, Stream, same_stream}
+use Rattle.network.specs.Names.{same_side, same_kind, kind_of, same_stream}
 use Rattle.network.specs.Runs.{Moment}
 use Rattle.network.specs.Packets.{Packet, stream_of, accepted, events, made_at, packet_from, arrival, arrivals}
 use Rattle.network.specs.Law.{Sound, sound, sounds}

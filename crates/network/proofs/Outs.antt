@@ -14,8 +14,9 @@ use Rattle.sending.specs.Runs as calls
 use Rattle.sending.specs.Runs.{Did, made, neither, did_event, did_due, does, step}
 use Rattle.sending.proofs.Kept.{due_is}
 use Rattle.trunk.specs.declared.answer.Which.{Which}
+use Rattle.trunk.specs.declared.answer.Stream.TheVariants.{Messages}
 use Rattle.network.specs.declared.side.Side.{Side}
-use Rattle.network.specs.Names.{kind_of, messages}
+use Rattle.network.specs.Names.{kind_of}
 use Rattle.network.specs.Runs.{event, due, Moment}
 use Rattle.network.specs.Packets as packets
 use Rattle.network.specs.Packets.{message, Packet, stream_of, accepted, events, of_event, made_at}
@@ -77,9 +78,9 @@ module _ {P Q M : Type 0} {k : Meaning M} {inj : M → Either P Q} {side : Side}
         (rw (brings_none h due_moment side which refl, brings_nothing (due_of s t) (on.due k s t room).0) (sym (append-nil (events side which h)))) makes
 
     -- a packet that is made is of this stream
-    pub due_kind : (y : Packet P Q) → made_at side h (Some due_moment) ≡ Some y → stream_of y.content ≡ messages which
+    pub due_kind : (y : Packet P Q) → made_at side h (Some due_moment) ≡ Some y → stream_of y.content ≡ Messages which
     due_kind y e = by (does k s (calls.due t room)) (makes y e)
       where
-        by : (d : Did M) → gave k inj d ≡ Some y → stream_of y.content ≡ messages which
-        by (made u d) g = ap (λ (z : Packet P Q). stream_of z.content) (sym (same_Some (packet k inj d) y g)) ∙ ap messages (kind_is d.message)
+        by : (d : Did M) → gave k inj d ≡ Some y → stream_of y.content ≡ Messages which
+        by (made u d) g = ap (λ (z : Packet P Q). stream_of z.content) (sym (same_Some (packet k inj d) y g)) ∙ ap Messages (kind_is d.message)
         by d g = absurd (none-some y g)

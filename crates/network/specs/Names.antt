@@ -4,6 +4,8 @@ use Rattle.type3.specs.declared.payload.Either.{Either}
 use Rattle.type3.specs.declared.payload.Either.TheVariants.{First, Second}
 use Rattle.trunk.specs.declared.answer.Which.{Which}
 use Rattle.trunk.specs.declared.answer.Which.TheVariants as which
+use Rattle.trunk.specs.declared.answer.Stream.{Stream}
+use Rattle.trunk.specs.declared.answer.Stream.TheVariants.{Audio, Messages}
 use Rattle.network.specs.declared.side.Side.{Side}
 use Rattle.network.specs.declared.side.Side.TheVariants.{Near, Far}
 
@@ -28,13 +30,8 @@ abbrev pub kind_of : {P Q : Type 0} → Either P Q → Which
 kind_of (First m) = which.First
 kind_of (Second m) = which.Second
 
--- each side receives a stream of audio, and one of messages for each kind
-pub data Stream : Type 0 where
-  audio : Stream
-  messages : Which → Stream
-
 abbrev pub same_stream : Stream → Stream → Bool
-same_stream audio audio = true
-same_stream audio (messages w) = false
-same_stream (messages v) audio = false
-same_stream (messages v) (messages w) = same_kind v w
+same_stream Audio Audio = true
+same_stream Audio (Messages w) = false
+same_stream (Messages v) Audio = false
+same_stream (Messages v) (Messages w) = same_kind v w

@@ -12,9 +12,10 @@ use Rattle.placing.specs.Lists.{greatest, gather}
 use Rattle.trunk.specs.declared.answer.Which.{Which}
 use Rattle.trunk.specs.declared.answer.Arrived.{Arrived}
 use Rattle.trunk.specs.declared.answer.Arrived.TheVariants as on
+use Rattle.trunk.specs.declared.answer.Stream.{Stream}
+use Rattle.trunk.specs.declared.answer.Stream.TheVariants.{Audio, Messages}
 use Rattle.network.specs.declared.side.Side.{Side}
-use Rattle.network.specs.Names as name
-use Rattle.network.specs.Names.{same_side, same_kind, kind_of, Stream, messages}
+use Rattle.network.specs.Names.{same_side, same_kind, kind_of}
 use Rattle.network.specs.Runs.{Call, audio, event, due, arrive, AnswerTo, Moment}
 
 -- what a packet carries: audio under the entry at a place, or a message
@@ -95,8 +96,8 @@ module _ {P Q : Type 0} where
   packet_from side h (Some i) = made_at side (take i h) (slice_get h i)
 
   abbrev pub stream_of : Content P Q → Stream
-  stream_of (entry place) = name.audio
-  stream_of (message m) = messages (kind_of m)
+  stream_of (entry place) = Audio
+  stream_of (message m) = Messages (kind_of m)
 
   -- ---- arrivals
 

@@ -22,8 +22,8 @@ use Rattle.placing.specs.Lists.{gather}
 use Rattle.trunk.specs.declared.answer.Which.TheVariants as which
 use Rattle.trunk.specs.declared.answer.Arrived.TheVariants as on
 use Rattle.trunk.specs.End.{in_force}
+use Rattle.trunk.specs.declared.answer.Stream.TheVariants.{Messages}
 use Rattle.network.specs.declared.side.Side.TheVariants.{Near, Far}
-use Rattle.network.specs.Names.{messages}
 use Rattle.network.specs.Runs.{audio, event, due, arrive, Moment, Ends, begun, end_at, after, history}
 use Rattle.network.specs.Packets.{Arrival, had, packet_from, arrival, arrivals}
 use Rattle.network.specs.Law.{spoiled, foreign, original, sound, sounds, each_arrival, network_rule, age_rule, later_than_all, latest_news}
@@ -183,7 +183,7 @@ pub record SortsOccur : Type 0 where
 -- end, as the far end had them.
 pub record InForce : Type 0 where
   pub at_the_far_end : in_force (end_at ends Far) which.First ≡ Some (First seven)
-  pub latest_news_there : option_map (λ s. s.packet.time) (latest_news (sounds Far (messages which.First) witness)) ≡ Some 18510
+  pub latest_news_there : option_map (λ s. s.packet.time) (latest_news (sounds Far (Messages which.First) witness)) ≡ Some 18510
   pub what_the_near_end_had : had Near which.First 18510 witness ≡ Some (First seven)
   pub at_the_near_end : in_force (end_at ends Near) which.Second ≡ Some (Second bits)
   pub what_the_far_end_had : had Far which.Second 5 witness ≡ Some (Second bits)
