@@ -7,7 +7,8 @@ import copy
 import random
 
 from end import EXAMPLES, KINDS, LAST_TIME, CasBits, Digit, Digits, End, Entry, shown
-from law import FAR, NEAR, OTHER, Arrive, Audio, Due, Ends, Event, broken_premises, broken_promises, made
+from law import (FAR, NEAR, OTHER, Arrive, Audio, Due, Ends, Event, broken_once, broken_premises, broken_promises, copies, events, in_order,
+                 made, not_once)
 from lists import Maker, random_profile
 
 NEWS, ORIGIN, IN_FORCE = "news exactly when later", "news names its origin", "in force is what the far end had"
@@ -126,18 +127,65 @@ example({"age"}, {ORIGIN}, ["label 0", "audio 5 0 0", "repeat audio", "label 1",
         (NEAR, Audio(0, 5, b"\0")), (FAR, Copy(0, 0)), (FAR, Copy(39, 0)), (NEAR, Audio(5, 5, b"\0")), (FAR, Copy(80, 3)), least=False)
 
 
+# ---- in order
+
+KEY = "digit event {} {} {} 0 5 10"
+BACK = "digit confirmed 3 {} {} 0 5 10"
+
+
+def sent(*payloads):
+    return [f"sent {octets}" for octets in payloads]
+
+
+ordered = done(Ends(EXAMPLES["A"]), [
+    (NEAR, Event(0, 1000, FIVE)), (NEAR, Due(0, 1000, 6)), (NEAR, Due(0, 1005, 6)), (NEAR, Due(0, 1010, 6)),
+    (FAR, Copy(50, 2)), (FAR, Copy(55, 3)),
+    (NEAR, Event(0, 1100, FIVE)), (NEAR, Due(0, 1100, 6)), (NEAR, Due(0, 1105, 6)), (NEAR, Due(0, 1110, 6)),
+    (FAR, Copy(150, 7)), (FAR, Copy(160, 9)), (NEAR, Due(0, 1610, 6)), (FAR, Copy(660, 12)),
+    (NEAR, Event(0, 2000, FIVE)), (NEAR, Due(0, 2000, 6)), (NEAR, Due(0, 2005, 6)), (NEAR, Due(0, 2010, 6)), (NEAR, Due(0, 2510, 6)),
+    (FAR, Copy(1560, 18))])
+heard = [shown(m.answer) for m in ordered.history if m.side == FAR]
+assert heard == [KEY.format(1, 0, 0), "repeat digit", KEY.format(0, 100, 100), "repeat digit", BACK.format(510, 610), BACK.format(900, 1510)], heard
+assert broken_premises(ordered) == [] and in_order(ordered.history, FAR, 0) and broken_once(ordered.history, FAR, 0) == []
+assert [len(copies(ordered.history, FAR, 0, event)) for event in events(ordered.history, NEAR, 0)] == [2, 2, 0]
+
+overtaken = done(Ends(EXAMPLES["A"]), [
+    (NEAR, Event(0, 1000, FIVE)), (NEAR, Due(0, 1000, 6)), (NEAR, Due(0, 1005, 6)), (NEAR, Due(0, 1010, 6)), (NEAR, Due(0, 1510, 6)),
+    (FAR, Copy(560, 4)), (FAR, Copy(561, 1))])
+heard = [shown(m.answer) for m in overtaken.history if m.side == FAR]
+assert heard == ["digit recovered 3 0 0 0 5 10", "late digit"], heard
+assert broken_premises(overtaken) == [] and not in_order(overtaken.history, FAR, 0) and broken_once(overtaken.history, FAR, 0) == []
+assert [event.time for event in not_once(overtaken.history, FAR, 0)] == [1000]
+
+
 # ---- random lists
 
 def tried(count):
-    """How many lists had all premises; of them every promise holds."""
+    """Of random lists, those with all premises, of which every promise holds. How many there are, how many events are heard on streams that
+    keep their order and on others, and how many of the latter are not handed out once.
+    """
     rng = random.Random(7)
-    whole = 0
+    whole, orderly, others, lost = 0, 0, 0, 0
     for _ in range(count):
         ends = Maker(rng, random_profile(rng), wild=False).made(rng.randrange(10, 40))
-        if not broken_premises(ends):
-            whole += 1
-            assert not broken_promises(ends), broken_promises(ends)
-    return whole
+        if broken_premises(ends):
+            continue
+        whole += 1
+        assert not broken_promises(ends), broken_promises(ends)
+        for side in OTHER:
+            for which in range(len(KINDS)):
+                h = ends.history
+                assert not broken_once(h, side, which), broken_once(h, side, which)
+                events_heard = sum(copies(h, side, which, event) != [] for event in events(h, OTHER[side], which))
+                if in_order(h, side, which):
+                    orderly += events_heard
+                else:
+                    others += events_heard
+                    lost += len(not_once(h, side, which))
+    return whole, orderly, others, lost
 
 
-print(tried(5000), "of 5000 lists have all premises, and their promises hold")
+whole, orderly, others, lost = tried(5000)
+print(whole, "of 5000 lists have all premises, and their promises hold")
+print(orderly, "events are heard on streams in order, and each is handed out once; of", others, "on other streams", lost, "are not")
+assert orderly > 100 and lost > 10

@@ -1,6 +1,7 @@
 """Two ends and a list of calls on them, and the law over the list, made from docs/law.md alone and not from the programs.
 
-`run` answers each call. `broken_premises` and `broken_promises` say where a premise or a promise of the law fails.
+`run` answers each call. `broken_premises` and `broken_promises` say where a premise or a promise of the law fails, `in_order` whether
+the packets of a stream keep their order, and `broken_once` where an event is not handed out as docs/law.md says.
 """
 
 from typing import NamedTuple
@@ -241,4 +242,51 @@ def broken_promises(ends):
             news = [s for s in sounds(h, side, which) if s.is_news]
             if news and ends.ends[side].force(which) != had(h, OTHER[side], which, news[-1].packet.time):
                 broken.append(f"in force is what the far end had, of {kinds[which].name} at {side}")
+    return broken
+
+
+# ---- handed out once, where packets keep their order
+
+def in_order(history, side, which):
+    times = [s.packet.time for s in sounds(history, side, which)]
+    return all(early <= late for early, late in zip(times, times[1:]))
+
+
+def handed_out(history, at, side, which):
+    """The message that a call hands out as an event of a kind at a side, if it does."""
+    m = history[at]
+    if m.side == side and isinstance(m.answer, MessageNews) and m.answer.stream == KINDS[which].name and m.answer.of == "event":
+        return m.answer.message
+    return None
+
+
+def is_copy(s, event):
+    """One of the three copies of an event, and no refresh."""
+    return s is not None and s.packet.octets[0] // 64 < 3 and s.packet.time == event.time
+
+
+def copies(history, side, which, event):
+    """The calls at which a sound copy of an event arrives."""
+    return [at for at in arrivals(history, side)
+            if (s := sound(history, at)) is not None and s.packet.stream == which and is_copy(s, event)]
+
+
+def not_once(history, side, which):
+    """The events of the other side of which a sound copy arrives and that are not handed out exactly once."""
+    heard = [(event, copies(history, side, which, event)) for event in events(history, OTHER[side], which)]
+    return [event for event, at in heard if sum(handed_out(history, i, side, which) is not None for i in at) != min(len(at), 1)]
+
+
+def broken_once(history, side, which):
+    """What fails of the three promises, of which the first is made only where packets keep their order."""
+    broken = [f"exactly once, of {event}" for event in not_once(history, side, which)] if in_order(history, side, which) else []
+    accepted = events(history, OTHER[side], which)
+    for event in accepted:
+        out = [handed_out(history, at, side, which) for at in copies(history, side, which, event)]
+        broken += [f"as itself, of {event}" for message in out if message not in (None, event.message)]
+    for at in arrivals(history, side):
+        message = handed_out(history, at, side, which)
+        before = events(history[:at], OTHER[side], which)
+        if message is not None and not any(at in copies(history, side, which, event) and event.message == message for event in before):
+            broken.append(f"nothing else, at {at}")
     return broken

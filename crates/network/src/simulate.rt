@@ -4,6 +4,7 @@ ghost use Rattle.profile.specs.declared.load.LoadError.TheVariants.{Memory};
 ghost use Rattle.network.specs.Runs.{begun, after, history};
 ghost use Rattle.network.specs.Answers.{turn_of, said_at};
 ghost use Rattle.network.specs.Law.{Law};
+ghost use Rattle.network.specs.Once.{EachEventOnce};
 
 use crate::call::{Answer, Turn};
 use crate::ends::Ends;
@@ -46,6 +47,7 @@ pub fn simulate<P: Kind, Q: Kind>(
     ensures answers { IfOk result (λ run. run.answers.items ≡ map said_at (history P.Kind.model Q.Kind.model (begun near far) (map turn_of turns.now))) }
     ensures ends { IfOk result (λ run. run.ends ≡ after P.Kind.model Q.Kind.model (begun near far) (map turn_of turns.now)) }
     ensures law { IfOk result (λ run. Law P.Kind.model Q.Kind.model near far (map turn_of turns.now) run.ends) }
+    ensures once { IfOk result (λ run. EachEventOnce P.Kind.model Q.Kind.model near far (map turn_of turns.now)) }
     ensures unchanged { IfErr result (λ back. (back.near ≡ near) × (back.far ≡ far)) }
 {
     let Ok(mut answers) = Vec::with_capacity(heap, turns.len()) else {
