@@ -21,7 +21,9 @@ use Rattle.trunk.specs.declared.answer.Which.{Which}
 use Rattle.trunk.specs.declared.answer.Which.TheVariants.{First, Second}
 use Rattle.trunk.specs.declared.answer.Arrived.{Arrived}
 use Rattle.trunk.specs.declared.answer.Arrived.TheVariants as arrived
-use Rattle.trunk.specs.End.{End, with_outs, clock_after, with_ins, on_stream, arrive_read}
+use Rattle.trunk.specs.End.{End, with_outs, with_ins, arrive_read}
+use Rattle.trunk.specs.Streams.{answer_on}
+use Rattle.trunk.specs.declared.answer.Stream.TheVariants.{Audio, Messages}
 use Rattle.network.specs.Names.{same_kind, kind_of}
 use Rattle.network.specs.Packets.{message, news_of}
 use Rattle.network.proofs.Ins.{naming}
@@ -56,8 +58,12 @@ module _ (P Q : Type 0) where
 
   -- an answer on the stream of a kind
   abbrev pub on_lane : (w : Which) → Result (Told (MessageNews (Of P Q w))) Refusal → Result (Arrived P Q) Refusal
-  on_lane First r = on_stream arrived.First r
-  on_lane Second r = on_stream arrived.Second r
+  on_lane First r = answer_on (Messages First) arrived.First r
+  on_lane Second r = answer_on (Messages Second) arrived.Second r
+
+  -- an answer on the stream of audio, under the entry at a place
+  abbrev pub on_audio : ℕ → Result (Told Moved) Refusal → Result (Arrived P Q) Refusal
+  on_audio i r = answer_on Audio (λ m. arrived.Audio (record { place = i; moved = m })) r
 
 module _ {P Q : Type 0} where
   -- of two, that of a kind
@@ -83,8 +89,8 @@ module _ {P Q : Type 0} where
   abbrev pub with_out : (w : Which) → End P Q → Stream (Of P Q w) → End P Q
   with_out w s r = with_outs s s.audio_out (new_first P Q Stream w r s.first_out) (new_second P Q Stream w r s.second_out)
 
-  abbrev pub with_in : (w : Which) → End P Q → ℕ → Inbound (Of P Q w) → End P Q
-  with_in w s clock r = with_ins s clock s.audio_in (new_first P Q Inbound w r s.first_in) (new_second P Q Inbound w r s.second_in)
+  abbrev pub with_in : (w : Which) → End P Q → Inbound (Of P Q w) → End P Q
+  with_in w s r = with_ins s s.audio_in (new_first P Q Inbound w r s.first_in) (new_second P Q Inbound w r s.second_in)
 
   module _ (p : Meaning P) (q : Meaning Q) where
     abbrev pub meaning : (w : Which) → Meaning (Of P Q w)
@@ -105,7 +111,7 @@ module _ {P Q : Type 0} where
     received w s a x = receive (meaning w) (into w s) a x
 
     pub arrive_lane : (w : Which) (s : End P Q) (a : ℕ) (x : Payload (Of P Q w))
-        → arrive_read p q s a (Ok (saying P Q w x)) ≡ (on_lane P Q w (received w s a x).0, with_in w s (clock_after s a (received w s a x).0) (received w s a x).1)
+        → arrive_read p q s a (Ok (saying P Q w x)) ≡ (on_lane P Q w (received w s a x).0, with_in w s (received w s a x).1)
     arrive_lane First s a x = refl
     arrive_lane Second s a x = refl
 

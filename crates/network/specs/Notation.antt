@@ -9,10 +9,12 @@ use Rattle.kinds.specs.Codes.{is_code}
 use Rattle.kinds.specs.Digits.{digits}
 use Rattle.kinds.specs.Cas.{cas}
 use Rattle.profile.specs.declared.entry.Entry.{Entry}
-use Rattle.placing.specs.declared.stream.Told.TheVariants.{News}
 use Rattle.placing.specs.declared.receiver.Class.{Class}
+use Rattle.trunk.specs.declared.answer.Which.TheVariants as which
+use Rattle.trunk.specs.declared.answer.Stream.{Stream}
+use Rattle.trunk.specs.declared.answer.Stream.TheVariants.{Messages}
 use Rattle.trunk.specs.declared.answer.Arrived.{Arrived}
-use Rattle.trunk.specs.declared.answer.Arrived.TheVariants as on
+use Rattle.trunk.specs.declared.answer.Arrived.TheVariants as arrived
 use Rattle.network.specs.declared.side.Side.TheVariants.{Near, Far}
 use Rattle.network.specs.Runs.{Call, AnswerTo, Turn, Moment, begun, history}
 
@@ -33,15 +35,29 @@ abbrev pub far : (c : Call Digit CasBits) → AnswerTo c → Moment Digit CasBit
 far c r = record { side = Far; call = c; answer = r }
 
 abbrev pub audio_news : ℕ → ℕ → ℕ → Result (Arrived Digit CasBits) Refusal
-audio_news place elapsed position = Ok (on.Audio (News (record { place = place; moved = record { elapsed = elapsed; position = position } })))
+audio_news place elapsed position = Ok (arrived.Audio (record { place = place; moved = record { elapsed = elapsed; position = position } }))
 
 abbrev pub digit_news : Class → ℕ → ℕ → ℕ → Digit → Result (Arrived Digit CasBits) Refusal
 digit_news class redundancy elapsed position d =
-    Ok (on.First (News (record { class = class; redundancy = redundancy; moved = record { elapsed = elapsed; position = position }; message = d })))
+    Ok (arrived.First (record { class = class; redundancy = redundancy; moved = record { elapsed = elapsed; position = position }; message = d }))
 
 abbrev pub bits_news : Class → ℕ → ℕ → ℕ → CasBits → Result (Arrived Digit CasBits) Refusal
 bits_news class redundancy elapsed position m =
-    Ok (on.Second (News (record { class = class; redundancy = redundancy; moved = record { elapsed = elapsed; position = position }; message = m })))
+    Ok (arrived.Second (record { class = class; redundancy = redundancy; moved = record { elapsed = elapsed; position = position }; message = m }))
+
+-- a repeat of the latest news, or late
+abbrev pub repeat : Stream → Result (Arrived Digit CasBits) Refusal
+repeat stream = Ok (arrived.Repeat stream)
+
+abbrev pub late : Stream → Result (Arrived Digit CasBits) Refusal
+late stream = Ok (arrived.Late stream)
+
+-- the streams of an end over digits and signalling bits
+abbrev pub of_digits : Stream
+of_digits = Messages which.First
+
+abbrev pub of_bits : Stream
+of_bits = Messages which.Second
 
 abbrev pub calls_of : List (Moment Digit CasBits) → List (Turn Digit CasBits)
 calls_of ms = map (λ m. record { side = m.side; call = m.call }) ms

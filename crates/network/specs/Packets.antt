@@ -7,11 +7,10 @@ use Rattle.type3.specs.Octets.{redundancy_in}
 use Rattle.type3.specs.declared.payload.Either.{Either}
 use Rattle.type3.specs.declared.payload.Either.TheVariants.{First, Second}
 use Rattle.sending.specs.declared.event.Event.{Event}
-use Rattle.placing.specs.declared.stream.Told.TheVariants.{News, Repeat, Late}
 use Rattle.placing.specs.Lists.{greatest, gather}
 use Rattle.trunk.specs.declared.answer.Which.{Which}
 use Rattle.trunk.specs.declared.answer.Arrived.{Arrived}
-use Rattle.trunk.specs.declared.answer.Arrived.TheVariants as on
+use Rattle.trunk.specs.declared.answer.Arrived.TheVariants as arrived
 use Rattle.trunk.specs.declared.answer.Stream.{Stream}
 use Rattle.trunk.specs.declared.answer.Stream.TheVariants.{Audio, Messages}
 use Rattle.network.specs.declared.side.Side.{Side}
@@ -103,15 +102,11 @@ module _ {P Q : Type 0} where
 
   -- what an answer names, if it is news
   abbrev pub named : Arrived P Q → Option (Named P Q)
-  named (on.Audio (News n)) = Some (record { content = entry n.place; elapsed = n.moved.elapsed })
-  named (on.Audio Repeat) = None
-  named (on.Audio Late) = None
-  named (on.First (News n)) = Some (record { content = message (First n.message); elapsed = n.moved.elapsed })
-  named (on.First Repeat) = None
-  named (on.First Late) = None
-  named (on.Second (News n)) = Some (record { content = message (Second n.message); elapsed = n.moved.elapsed })
-  named (on.Second Repeat) = None
-  named (on.Second Late) = None
+  named (arrived.Audio n) = Some (record { content = entry n.place; elapsed = n.moved.elapsed })
+  named (arrived.First n) = Some (record { content = message (First n.message); elapsed = n.moved.elapsed })
+  named (arrived.Second n) = Some (record { content = message (Second n.message); elapsed = n.moved.elapsed })
+  named (arrived.Repeat stream) = None
+  named (arrived.Late stream) = None
 
   -- a refusal is no news
   abbrev pub news_of : Result (Arrived P Q) Refusal → Option (Named P Q)

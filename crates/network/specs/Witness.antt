@@ -16,18 +16,16 @@ use Rattle.profile.specs.Examples.{entries_of}
 use Rattle.profile.specs.Questions.{refusal}
 use Rattle.profile.specs.declared.entry.Entry.{Entry}
 use Rattle.profile.specs.declared.examples.Example.TheVariants.{A}
-use Rattle.placing.specs.declared.stream.Told.TheVariants.{Repeat, Late}
 use Rattle.placing.specs.declared.receiver.Class.TheVariants.{Event, Confirmed, Recovered}
 use Rattle.placing.specs.Lists.{gather}
 use Rattle.trunk.specs.declared.answer.Which.TheVariants as which
-use Rattle.trunk.specs.declared.answer.Arrived.TheVariants as on
 use Rattle.trunk.specs.End.{in_force}
-use Rattle.trunk.specs.declared.answer.Stream.TheVariants.{Messages}
+use Rattle.trunk.specs.declared.answer.Stream.TheVariants.{Audio, Messages}
 use Rattle.network.specs.declared.side.Side.TheVariants.{Near, Far}
 use Rattle.network.specs.Runs.{audio, event, due, arrive, Moment, Ends, begun, end_at, after, history}
 use Rattle.network.specs.Packets.{Arrival, had, packet_from, arrival, arrivals}
 use Rattle.network.specs.Law.{spoiled, foreign, original, sound, sounds, each_arrival, network_rule, age_rule, later_than_all, latest_news}
-use Rattle.network.specs.Notation.{digit, signal, near, far, audio_news, digit_news, bits_news, calls_of, Answered}
+use Rattle.network.specs.Notation.{digit, signal, near, far, audio_news, digit_news, bits_news, calls_of, Answered, repeat, late, of_digits}
 
 -- ---- what is sent
 
@@ -100,7 +98,7 @@ witness =
     -- 5: copy 2
     ∷ near (due which.First 1010 6) (Ok (Some five_copy_2))
     -- 6: a repeat
-    ∷ far (arrive 56 24 five_copy_2 (Some 5)) (Ok (on.First Repeat))
+    ∷ far (arrive 56 24 five_copy_2 (Some 5)) (repeat of_digits)
     -- 7: a refresh
     ∷ near (due which.First 1510 6) (Ok (Some five_refresh))
     -- 8: spoiled
@@ -110,7 +108,7 @@ witness =
     -- 10: the refresh
     ∷ far (arrive 562 24 five_refresh (Some 7)) (digit_news Confirmed 3 510 510 five)
     -- 11: copy 0, late
-    ∷ far (arrive 563 24 five_copy_0 (Some 1)) (Ok (on.First Late))
+    ∷ far (arrive 563 24 five_copy_0 (Some 1)) (late of_digits)
     -- 12: no event at the time of the refresh
     ∷ near (event 1510 (First seven)) (Err (Sending NotLater))
     -- 13: 7 is pressed, when the stamp has gone round
@@ -132,7 +130,7 @@ witness =
     -- 22: is news, 5 ms after the audio
     ∷ far (arrive 17606 2 silence (Some 21)) (audio_news 5 5 5)
     -- 23: the audio once more
-    ∷ far (arrive 17606 1 speech (Some 19)) (Ok (on.Audio Late))
+    ∷ far (arrive 17606 1 speech (Some 19)) (late Audio)
     -- 24: signalling bits, the other way
     ∷ far (event 5 (Second bits)) (Ok tt)
     -- 25: their copy 0
