@@ -1,6 +1,6 @@
 // Two ends and a list of calls run, where there is memory; in the second list packets keep their order.
 use kinds::digit::Digit;
-use network::sample::{sample, sample_in_order};
+use samples::sample::{sample, sample_in_order};
 use network::side::Side;
 use std::test::Fail;
 use trunk::answer::Which;

@@ -3,6 +3,5 @@
 
 pub mod call;
 pub mod ends;
-pub mod sample;
 pub mod side;
 pub mod simulate;

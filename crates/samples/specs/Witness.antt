@@ -25,7 +25,7 @@ use Rattle.network.specs.declared.side.Side.TheVariants.{Near, Far}
 use Rattle.network.specs.Runs.{audio, event, due, arrive, Moment, Ends, begun, end_at, after, history}
 use Rattle.network.specs.Packets.{Arrival, had, packet_from, arrival, arrivals}
 use Rattle.network.specs.Law.{spoiled, foreign, original, sound, sounds, each_arrival, network_rule, age_rule, later_than_all, latest_news}
-use Rattle.network.specs.Notation.{digit, signal, near, far, audio_news, digit_news, bits_news, calls_of, Answered, repeat, late, of_digits}
+use Rattle.samples.specs.Notation.{digit, signal, near, far, audio_news, digit_news, bits_news, calls_of, Answered, repeat, late, of_digits}
 
 -- ---- what is sent
 

@@ -1,6 +1,6 @@
 -- Made by tests/law/make.py: the samples, by computing. Assumes nothing.
 use Rattle.std.proofs.Common.{refl}
-use Rattle.network.specs.Samples.{SamplesHold}
+use Rattle.samples.specs.Samples.{SamplesHold}
 
 pub samples_hold : SamplesHold
 samples_hold = record {
