@@ -18,7 +18,7 @@ use Rattle.trunk.specs.End.{End, started, with_outs, with_ins, arrive_audio, arr
 use Rattle.trunk.specs.declared.answer.Stream.{Stream}
 use Rattle.trunk.specs.declared.answer.Stream.TheVariants.{Audio, Messages}
 use Rattle.network.specs.declared.side.Side.{Side}
-use Rattle.network.specs.Names.{other, same_side, same_kind, kind_of, same_stream}
+use Rattle.network.specs.Names.{other, same_side, same_kind, same_stream}
 use Rattle.network.specs.Runs.{Call, audio, event, due, arrive, AnswerTo, Moment, Ends, end_at}
 use Rattle.network.specs.Packets.{entry, Packet, Arrival, stream_of, accepted, events, made, made_at, packet_from, news_of, arrival_by, arrival}
 use Rattle.network.specs.Law.{sound, sounds, sound_if}

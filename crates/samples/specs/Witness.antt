@@ -1,5 +1,5 @@
 -- A list of calls on two ends, with its answers, for which every premise of the law holds: the law is not empty. Assumes nothing.
-use Rattle.std.specs.Prelude.{◌≡◌, ℕ, Bool, true, false, not, ◌&&◌, List, [], ◌∷◌, take, is_some, Some, None, Ok, Err, Option, ◌==◌, ◌≢◌, refl}
+use Rattle.std.specs.Prelude.{◌≡◌, ℕ, Bool, true, false, not, ◌&&◌, List, [], ◌∷◌, take, is_some, Some, None, Ok, Err, Option, ◌==◌, refl}
 use Rattle.std.specs.List.{slice_get, list_all}
 use Rattle.std.specs.Option.{option_map, option_map_or, option_and_then}
 use Rattle.refusal.specs.declared.Refusal.TheVariants.{Sending, Type3, Arrival as AtArrival}
@@ -24,7 +24,7 @@ use Rattle.trunk.specs.declared.answer.Stream.TheVariants.{Audio, Messages}
 use Rattle.network.specs.declared.side.Side.TheVariants.{Near, Far}
 use Rattle.network.specs.Runs.{audio, event, due, arrive, Moment, Ends, begun, end_at, after, history}
 use Rattle.network.specs.Packets.{Arrival, had, packet_from, arrival, arrivals}
-use Rattle.network.specs.Law.{spoiled, foreign, original, sound, sounds, each_arrival, network_rule, age_rule, later_than_all, latest_news}
+use Rattle.network.specs.Law.{spoiled, foreign, original, sound, sounds, Premises, later_than_all, latest_news}
 use Rattle.samples.specs.Notation.{digit, signal, near, far, audio_news, digit_news, bits_news, calls_of, Answered, repeat, late, of_digits}
 
 -- ---- what is sent
@@ -150,13 +150,6 @@ ends = after digits cas (begun profile profile) (calls_of witness)
 abbrev pub run : List (Moment Digit CasBits)
 run = history digits cas (begun profile profile) (calls_of witness)
 
--- every premise of the law
-pub record PremisesHold : Type 0 where
-  pub message_types_differ : digits.message_type ≢ cas.message_type
-  pub profile_loads : refusal profile ≡ None
-  pub network_keeps_its_rule : each_arrival network_rule run ≡ true
-  pub ages_keep_theirs : each_arrival (age_rule profile) run ≡ true
-
 -- of the arrival at a place of the list, beside the calls before it
 abbrev pub at : {Y : Type 0} → ℕ → (List (Moment Digit CasBits) → Arrival Digit CasBits → Y) → Option Y
 at i find = option_map (find (take i witness)) (option_and_then arrival (slice_get witness i))
@@ -187,7 +180,8 @@ pub record InForce : Type 0 where
   pub what_the_far_end_had : had Far which.Second 5 witness ≡ Some (Second bits)
 
 pub record LawIsNotEmpty : Type 0 where
-  pub premises : PremisesHold
+  pub profile_loads : refusal profile ≡ None
+  pub premises : Premises digits cas profile profile run
   pub answers : Answered profile witness
   pub sorts : SortsOccur
   pub in_force : InForce
