@@ -1,10 +1,10 @@
 // Two ends and a list of calls run, where there is memory.
-use kinds::digit::Digit;
+use kinds::Digit;
 use network::sample::sample;
 use network::side::Side;
 use std::test::Fail;
 use trunk::answer::Which;
-use type3::payload::Either;
+use type3::Either;
 
 #[test]
 fn the_sample_runs(rt: HostRuntime) -> Result<(), Fail> {

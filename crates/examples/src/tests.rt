@@ -1,15 +1,9 @@
 // Payloads that are known octet by octet.
 use crate::wide::{Mark, Wide};
 use crc10::crc_of;
-use kinds::cas::{Cas, CasBits};
-use kinds::digit::Digit;
-use kinds::digits::Digits;
-use kinds::system::System;
+use kinds::{Cas, CasBits, Digit, Digits, System};
 use std::test::Fail;
-use type3::bounded::{Redundancy, Stamp};
-use type3::payload::Payload;
-use type3::reading::{read_either, read_payload};
-use type3::writing::write_payload;
+use type3::{Payload, Redundancy, Stamp, read_either, read_payload, write_payload};
 
 const NO_BITS: CasBits = CasBits {
     a: false,

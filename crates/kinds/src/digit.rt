@@ -3,9 +3,9 @@ ghost use Rattle.std.specs.Prelude.{◌≡◌, true, nat_lt};
 ghost use Rattle.kinds.specs.Codes.{is_code};
 ghost use Rattle.kinds.specs.Systems.{number_of};
 
+use crate::keys::key_code;
 use crate::system::System;
-
-pub mod make;
+use refusal::{KindFault, Refusal};
 
 // The code that ends a tone, of every type. (Codes are numbers, since each type has its own.)
 pub const TONE_OFF: u8 = 31;
@@ -22,6 +22,48 @@ pub struct Digit {
 }
 
 impl Digit {
+    ghost use Rattle.std.specs.Prelude.{◌≡◌};
+    ghost use Rattle.kinds.specs.Digits.{digit_in, level_of, make, make_key};
+
+    // The digit of a digit type and a code, at a level in whole dBm0. The type is given by its number, and a number that is none
+    // is refused.
+    pub fn new(system: u8, code: u8, dbm0: i8) -> Result<Digit, Refusal>
+        ensures { result ≡ make system code dbm0 }
+    {
+        let system = System::try_from(system)?;
+        Digit::of_parts(Digit::level_of(dbm0), system, code).ok_or(KindFault::DigitCode.into())
+    }
+
+    // The DTMF digit of a key. A character that names no key is a code that DTMF lacks.
+    pub fn of_key(key: char, dbm0: i8) -> Result<Digit, Refusal>
+        ensures { result ≡ make_key key dbm0 }
+    {
+        let code = key_code(key).ok_or(KindFault::DigitCode)?;
+        Digit::new(System::Dtmf.into(), code, dbm0)
+    }
+
+    // The digit of these parts, if there is one.
+    pub(crate) fn of_parts(level: u8, system: System, code: u8) -> Option<Digit>
+        ensures { result ≡ digit_in level system code }
+    {
+        if level < 32 && system.has(code) {
+            Some(Digit {
+                level,
+                system,
+                code,
+            })
+        } else {
+            None
+        }
+    }
+
+    // The level of whole dBm0: 0 and above give 0, -31 and below give 31, and otherwise -n gives n.
+    fn level_of(dbm0: i8) -> u8
+        ensures { result ≡ level_of dbm0 }
+    {
+        dbm0.clamp(-31, 0).unsigned_abs()
+    }
+
     pub fn level(self) -> u8
         ensures { result ≡ self.level }
     {

@@ -8,7 +8,7 @@ ghost use Rattle.kinds.specs.Cas.{cas};
 ghost use Rattle.kinds.specs.Digits.{digits};
 ghost use Rattle.kinds.specs.Export.{told, Apart};
 
-use kinds::export;
+use kinds::read_as_number;
 
 // Reads one payload of digits or of CAS. Read, it is message type × 65,536 + octet 1 × 256 + octet 2 of the payload; refused,
 // the refusal's number, and where the kind does not read the body that number + 256 × the cause.
@@ -17,5 +17,5 @@ pub extern "C" fn gublaisma_read_type3(payload: &[u8]) -> u32
     ensures value { result ≡ told payload.now }
     ensures apart { Apart (read_either digits cas payload.now) result }
 {
-    export::gublaisma_read_type3(payload)
+    read_as_number(payload)
 }

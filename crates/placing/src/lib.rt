@@ -1,7 +1,10 @@
 // The receiving half of a stream: where in time an arrival stands, and what it tells.
 #![tactic(auto)]
 
-pub mod near;
-pub mod receiver;
-pub mod span;
-pub mod stream;
+mod receiver;
+mod span;
+mod stream;
+
+pub use receiver::{Class, MessageNews, Receiver};
+pub use span::{Labelling, Span};
+pub use stream::{Moved, Placed, Stream, Told};

@@ -5,13 +5,10 @@ ghost use Rattle.placing.specs.InForce.{InForceIsTheLatestNews};
 
 use crate::span::Labelling;
 use crate::stream::{Moved, Stream, Told};
-use refusal::Refusal;
-use refusal::times::Time;
+use refusal::{Refusal, Time};
 use std::fmt;
 use std::marker::Model;
-use type3::bounded::Redundancy;
-use type3::kind::Kind;
-use type3::payload::Payload;
+use type3::{Kind, Payload, Redundancy};
 
 // News of a message stream: a copy of an event is an event; a refresh confirms the message in force, or recovers one that was
 // lost.

@@ -5,8 +5,7 @@ ghost use Rattle.placing.specs.Arrivals.{StampsTell, LabelsTell, PlacedWhereMade
 ghost use Rattle.placing.specs.News.{IfNews, Changed};
 
 use crate::span::Labelling;
-use refusal::times::{Time, is_time};
-use refusal::{PlacingFault, Refusal};
+use refusal::{PlacingFault, Refusal, Time, is_time};
 use std::marker::Model;
 
 // The latest news of a stream: its label, when it arrived, and the time since the first news.

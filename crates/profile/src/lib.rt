@@ -1,9 +1,13 @@
 // Profiles: which audio packets a trunk carries, and how they are labelled.
 #![tactic(auto)]
 
-pub mod entry;
-pub mod examples;
-pub mod labels;
-pub mod load;
-pub mod profile;
-pub mod questions;
+mod entry;
+mod examples;
+mod load;
+mod profile;
+mod questions;
+
+pub use entry::Entry;
+pub use examples::{Example, UnknownExample};
+pub use load::LoadError;
+pub use profile::Profile;

@@ -8,7 +8,9 @@ ghost use Rattle.refusal.specs.declared.Refusal.TheVariants.{Sending, Arrival, T
 use std::error::Error;
 use std::fmt;
 
-pub mod times;
+mod times;
+
+pub use times::{Time, is_time};
 
 // Loading a profile.
 #[derive(Clone, Copy, Debug, PartialEq, Eq)]

@@ -3,10 +3,8 @@ ghost use Rattle.std.specs.Prelude.{◌≡◌, ◌≤◌, length};
 ghost use Rattle.refusal.specs.Questions.{first_no, allowed};
 ghost use Rattle.sending.specs.Audio.{audio, audio_questions};
 
-use profile::entry::Entry;
-use profile::profile::Profile;
-use refusal::times::Time;
-use refusal::{Refusal, SendingFault};
+use profile::{Entry, Profile};
+use refusal::{Refusal, SendingFault, Time};
 use std::marker::Model;
 
 // In contracts it is the end of the last accepted packet.

@@ -2,9 +2,8 @@
 ghost use Rattle.std.specs.Prelude.{◌≡◌};
 ghost use Rattle.sending.specs.Sending.{said_by};
 
-use refusal::times::Time;
-use type3::bounded::{Redundancy, Stamp};
-use type3::payload::Payload;
+use refusal::Time;
+use type3::{Payload, Redundancy, Stamp};
 
 #[derive(Clone, Copy, Debug, PartialEq, Eq)]
 pub struct Event<T> {

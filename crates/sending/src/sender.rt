@@ -6,13 +6,9 @@ ghost use Rattle.sending.specs.Runs.{SendsLawfully, KeepsItsMoments};
 ghost use Rattle.sending.specs.Answered.{counted, put};
 
 use crate::event::{Event, Packet};
-use refusal::times::Time;
-use refusal::{Refusal, SendingFault};
+use refusal::{Refusal, SendingFault, Time};
 use std::marker::Model;
-use type3::bounded::Redundancy;
-use type3::kind::Kind;
-use type3::payload::payload_len;
-use type3::writing::write_payload;
+use type3::{Kind, Redundancy, payload_len, write_payload};
 
 // An event has so many copies.
 const COPIES: u8 = 3;

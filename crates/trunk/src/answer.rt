@@ -1,6 +1,5 @@
 // What an end answers to an arrival, and which of its kinds is meant.
-use placing::receiver::MessageNews;
-use placing::stream::{Moved, Told};
+use placing::{MessageNews, Moved, Told};
 
 // An end has two kinds of message.
 #[derive(Clone, Copy, Debug, PartialEq, Eq)]

@@ -1,7 +1,7 @@
 use Rattle.std.proofs.Common.{◌≤◌, length, sym, ap, ◌∙◌, rules}
 use Rattle.refusal.specs.Questions.{allowed}
 use Rattle.profile.proofs.Walks.{counted, no_here, no_later}
-use Rattle.profile.proofs.load.check_entries.Goals as goal
+use Rattle.profile.proofs.questions.check_entries.Goals as goal
 
 pub returns-in-Err : goal.returns-in-Err
 returns-in-Err c =
