@@ -1,5 +1,5 @@
 // The receiving half of a message stream.
-ghost use Rattle.std.specs.Prelude.{◌≡◌, Some};
+ghost use Rattle.std.specs.Prelude.{◌≡◌, Some, IfErr};
 ghost use Rattle.placing.specs.Receiving.{text_of, new_receiver, class_of, receive};
 ghost use Rattle.placing.specs.InForce.{InForceIsTheLatestNews};
 
@@ -81,6 +81,7 @@ impl<K: Kind> Receiver<K> {
     ) -> Result<Told<MessageNews<K::Message>>, Refusal>
         ensures value { result ≡ (receive K.Kind.model self.old time payload).0 }
         ensures after { self.new ≡ (receive K.Kind.model self.old time payload).1 }
+        ensures unchanged { IfErr result (λ _. self.new ≡ self.old) }
     {
         let told = self
             .stream

@@ -1,5 +1,5 @@
 // A stream of arrivals: audio, or the messages of a kind.
-ghost use Rattle.std.specs.Prelude.{◌≡◌, None};
+ghost use Rattle.std.specs.Prelude.{◌≡◌, None, IfErr};
 ghost use Rattle.placing.specs.Placing.{place, by_sign};
 ghost use Rattle.placing.specs.Arrivals.{StampsTell, LabelsTell, PlacedWhereMade, PlacesRightly};
 ghost use Rattle.placing.specs.News.{IfNews, Changed};
@@ -83,6 +83,7 @@ impl Stream {
     ) -> Result<Told<Moved>, Refusal>
         ensures value { result ≡ (place labelling.span labelling.unit self.old label time).0 }
         ensures after { self.new ≡ (place labelling.span labelling.unit self.old label time).1 }
+        ensures unchanged { IfErr result (λ _. self.new ≡ self.old) }
     {
         let told = beside(labelling, self.latest, label, time)?;
         if let Told::News(moved) = told {

@@ -1,5 +1,5 @@
 // The sending half of the audio stream.
-ghost use Rattle.std.specs.Prelude.{◌≡◌, ◌≤◌, length};
+ghost use Rattle.std.specs.Prelude.{◌≡◌, ◌≤◌, length, IfErr};
 ghost use Rattle.refusal.specs.Questions.{first_no, allowed};
 ghost use Rattle.sending.specs.Audio.{audio, audio_questions};
 
@@ -41,6 +41,7 @@ impl AudioSender {
     ) -> Result<u16, Refusal>
         ensures value { result ≡ (audio profile.now self.old time place (length payload.now)).0 }
         ensures after { self.new ≡ (audio profile.now self.old time place (length payload.now)).1 }
+        ensures unchanged { IfErr result (λ _. self.new ≡ self.old) }
     {
         let time = Time::new(time).ok_or(SendingFault::TimeOutOfRange)?.get();
         let (entry, uui) = profile

@@ -1,5 +1,5 @@
 // The sending half of a message stream.
-ghost use Rattle.std.specs.Prelude.{◌≡◌, true, length};
+ghost use Rattle.std.specs.Prelude.{◌≡◌, true, length, IfErr};
 ghost use Rattle.refusal.specs.Questions.{first_no, allowed};
 ghost use Rattle.sending.specs.Sending.{new_sender, event_in_range, event_questions, event, due_of, due_questions, next_refresh, after_packet, due};
 ghost use Rattle.sending.specs.Runs.{SendsLawfully, KeepsItsMoments};
@@ -60,10 +60,11 @@ impl<K: Kind> Sender<K> {
     pub fn event(&mut self, time: u64, message: K::Message) -> Result<(), Refusal>
         ensures value { result ≡ (event self.old time message).0 }
         ensures after { self.new ≡ (event self.old time message).1 }
+        ensures unchanged { IfErr result (λ _. self.new ≡ self.old) }
         ensures in_range { event_in_range self.new.latest ≡ true }
         ensures lawful { SendsLawfully K.Kind.model }
     {
-        // what the type keeps is known on every way out
+        // (does nothing: at a field's first use a proof learns the type's invariant, which each way out has to tell)
         let _ = &self.latest;
         let time = Time::new(time).ok_or(SendingFault::TimeOutOfRange)?;
         self.check_event(time)?;
@@ -100,10 +101,11 @@ impl<K: Kind> Sender<K> {
         ensures value { result ≡ counted (due K.Kind.model self.old time (length out.old)).0 }
         ensures after { self.new ≡ (due K.Kind.model self.old time (length out.old)).1 }
         ensures octets { out.new ≡ put out.old (due K.Kind.model self.old time (length out.old)).0 }
+        ensures unchanged { IfErr result (λ _. (self.new ≡ self.old) × (out.new ≡ out.old)) }
         ensures in_range { event_in_range self.new.latest ≡ true }
         ensures moments { KeepsItsMoments K.Kind.model }
     {
-        // what the type keeps is known on every way out
+        // (does nothing: at a field's first use a proof learns the type's invariant, which each way out has to tell)
         let _ = &self.latest;
         let time = Time::new(time).ok_or(SendingFault::TimeOutOfRange)?;
         self.check_due(time, out.len())?;
