@@ -6,6 +6,7 @@ use Rattle.refusal.specs.declared.Refusal.{Refusal}
 use Rattle.refusal.specs.declared.Refusal.TheVariants.{Sending}
 use Rattle.refusal.specs.declared.SendingFault.TheVariants.{TimeOutOfRange, BehindClock, NotLater, BufferTooShort}
 use Rattle.type3.specs.Kinds.{Meaning}
+use Rattle.type3.specs.Stamps.{stamp_modulus}
 use Rattle.type3.specs.Octets.{written}
 use Rattle.type3.specs.declared.payload.Payload.{Payload}
 use Rattle.sending.specs.declared.event.Event.{Event}
@@ -77,9 +78,9 @@ module _ {M : Type 0} where
   abbrev pub due_of : Stream M → ℕ → Option (Packet M)
   due_of s t = due_by s t s.latest
 
-  -- what a packet says: its stamp is the time that it is made for, modulo 16,384
+  -- what a packet says: its stamp is that of the time that it is made for
   abbrev pub said_by : Packet M → Payload M
-  said_by d = record { redundancy = d.redundancy; stamp = d.time % 16384; message = d.message }
+  said_by d = record { redundancy = d.redundancy; stamp = d.time % stamp_modulus; message = d.message }
 
   abbrev pub after_nothing : Stream M → ℕ → Stream M
   after_nothing s t = record { clock = t; latest = s.latest; copies = s.copies; refresh = s.refresh; refreshed = s.refreshed }

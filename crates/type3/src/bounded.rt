@@ -1,6 +1,7 @@
 // The two numbers at the head of a type 3 payload, each with its bound in its type. In contracts each is that number.
 // They are made and read by `new` and `get`, as std's `NonZeroU8` is.
 ghost use Rattle.std.specs.Prelude.{◌≡◌, ◌+◌, ◌*◌, ◌/◌, ◌%◌, ◌<◌, ◌==◌, min, nat_lt, if◌then◌else◌, Some, None};
+ghost use Rattle.type3.specs.Stamps.{stamp_modulus};
 
 use std::marker::Model;
 
@@ -82,19 +83,20 @@ pub struct Stamp {
 
 impl Model for Stamp {
     ghost use Rattle.std.specs.Prelude.{ℕ, ◌<◌};
+    ghost use Rattle.type3.specs.Stamps.{stamp_modulus};
 
     ghost Value = { ℕ };
 
     ghost view = { λ s. s.ms };
 
-    ghost invariant = { λ s. s.ms < 16384 };
+    ghost invariant = { λ s. s.ms < stamp_modulus };
 
     ghost inverse = { λ n. record { ms = n } };
 }
 
 impl Stamp {
     pub fn new(ms: u16) -> Option<Stamp>
-        ensures { result ≡ (if nat_lt ms 16384 then Some ms else None) }
+        ensures { result ≡ (if nat_lt ms stamp_modulus then Some ms else None) }
     {
         if ms < STAMP_MODULUS {
             Some(Stamp { ms })
@@ -105,7 +107,7 @@ impl Stamp {
 
     // The stamp of a packet that is made for this time.
     pub fn at(time: u64) -> Stamp
-        ensures { result ≡ time % 16384 }
+        ensures { result ≡ time % stamp_modulus }
     {
         Stamp {
             ms: (time % u64::from(STAMP_MODULUS)) as u16,
@@ -123,7 +125,7 @@ impl Stamp {
 
     pub fn get(self) -> u16
         ensures value { result ≡ self }
-        ensures below { result < 16384 }
+        ensures below { result < stamp_modulus }
     {
         self.ms
     }
