@@ -1,4 +1,5 @@
-// The kinds of message of the product, dialled digits and channel-associated signalling, and reading them from C.
+//! The kinds of message of the product, dialled digits and channel-associated signalling as ITU-T I.366.2 has them, and
+//! reading them from C.
 #![tactic(auto)]
 
 mod cas;

@@ -1,20 +1,26 @@
-// An entry of a profile.
+//! An entry of a profile.
 ghost use Rattle.std.specs.Prelude.{◌≡◌};
 ghost use Rattle.profile.specs.Questions.{width, in_range, good_length, aligned, good_times, share};
 ghost use Rattle.profile.specs.Labels.{has};
 
-// An entry of a profile: the UUIs `first` to `last` carry packets of `length` octets, each of `packet_time` milliseconds of
-// audio, and count intervals of `interval` milliseconds. The types hold malformed values too: loading refuses those.
+/// An entry of a profile: the UUIs `first` to `last` carry packets of `length` octets, each of `packet_time` milliseconds of
+/// audio, and count intervals of `interval` milliseconds. The fields hold malformed values too: loading refuses those, with 2
+/// to 7.
 #[derive(Clone, Copy, Debug, PartialEq, Eq)]
 pub struct Entry {
-    // how rate control names the entry, if it does; it is never checked
+    /// how rate control names the entry, if it does; it is never checked
     pub index: Option<u8>,
-    // which encoding the packets have; any number is taken, since it is never checked
+    /// which encoding the packets have; any number is taken, since it is never checked
     pub format: u8,
+    /// the first of its UUIs: at most `last`, and a multiple of the width, which is `last` - `first` + 1
     pub first: u16,
+    /// the last of its UUIs, at most 15
     pub last: u16,
+    /// the octets of each packet, 1 to 64
     pub length: u16,
+    /// the milliseconds of audio in each packet: one interval or several whole ones, up to 65,535
     pub packet_time: u32,
+    /// the milliseconds that a step of the label stands for, 1 to 255: one number for all entries of a profile
     pub interval: u16,
 }
 

@@ -1,4 +1,5 @@
-// Profiles: which audio packets a trunk carries, and how they are labelled.
+//! Profiles, as ITU-T I.366.2 has them for audio: which packets a trunk carries, known by UUI and length, and how they are
+//! labelled. What is otherwise than in the standard stands in `docs/DECISIONS.md`.
 #![tactic(auto)]
 
 mod entry;

@@ -1,4 +1,4 @@
-// The sending half of a message stream.
+//! The sending half of a message stream.
 ghost use Rattle.std.specs.Prelude.{◌≡◌, true, length, IfErr};
 ghost use Rattle.refusal.specs.Questions.{first_no, allowed};
 ghost use Rattle.sending.specs.Sending.{new_sender, event_in_range, event_questions, event, due_of, due_questions, next_refresh, after_packet, due};
@@ -16,6 +16,7 @@ const COPIES: u8 = 3;
 // They are so many milliseconds apart.
 const COPY_SPACING: u64 = 5;
 
+/// The sending half of a message stream of a kind. In contracts it is the record `Stream`.
 #[derive(Drop)]
 pub struct Sender<K: Kind> {
     // the time of the latest call that was not refused
@@ -42,6 +43,7 @@ impl<K: Kind> Model for Sender<K> {
 }
 
 impl<K: Kind> Sender<K> {
+    /// A new stream, with no event.
     pub fn new() -> Sender<K>
         ensures { result ≡ new_sender }
     {
@@ -54,8 +56,11 @@ impl<K: Kind> Sender<K> {
         }
     }
 
-    // An event at a time: it ends what was due of an earlier one, and its message is in force. Whatever is called on a new
-    // stream, what it sends is lawful.
+    /// An event at a time, in milliseconds: it ends what was due of an earlier one, and its message is in force. Whatever is
+    /// called on a new stream, what it sends is lawful.
+    ///
+    /// Refused, and then unchanged, in this order: 10, no time; 15, before the latest event or due call that was not refused;
+    /// 16, not later than the latest event and the last refresh.
     #[tactic(auto, using(crate::proofs::Histories::sends_lawfully))]
     pub fn event(&mut self, time: u64, message: K::Message) -> Result<(), Refusal>
         ensures value { result ≡ (event self.old time message).0 }
@@ -94,8 +99,11 @@ impl<K: Kind> Sender<K> {
         Ok(())
     }
 
-    // What is due at a time: the first unsent packet whose moment has come is written to the start of `out`, and its length
-    // is answered. Called at every millisecond after an event, it sends each packet at its moment.
+    /// What is due at a time, in milliseconds: the first unsent packet whose moment has come is written to the start of `out`,
+    /// and its length in octets is answered. Called at every millisecond after an event, it sends each packet at its moment.
+    ///
+    /// Refused, and then stream and buffer are unchanged, in this order, whether or not anything is due: 10, no time; 15,
+    /// before the latest event or due call that was not refused; 19, the buffer does not hold a packet of this kind.
     #[tactic(auto, using(crate::proofs::Milliseconds::keeps_its_moments))]
     pub fn due(&mut self, time: u64, out: &mut [u8]) -> Result<Option<usize>, Refusal>
         ensures value { result ≡ counted (due K.Kind.model self.old time (length out.old)).0 }

@@ -1,4 +1,5 @@
-// Type 3 payloads of any kind of message: how they are written, and what is read from them.
+//! Type 3 payloads of ITU-T I.366.2, of any kind of message: how they are written, and what is read from them. A payload is
+//! 5 to 12 octets: redundancy and stamp, a body, the message type, and the check of I.610.
 #![tactic(auto)]
 
 mod bounded;
