@@ -1,7 +1,8 @@
 //! The sending half of a message stream.
 ghost use Rattle.std.specs.Prelude.{◌≡◌, true, length, IfErr};
 ghost use Rattle.refusal.specs.Questions.{first_no, allowed};
-ghost use Rattle.sending.specs.Sending.{new_sender, event_in_range, event_questions, event, due_of, due_questions, next_refresh, after_packet, due};
+ghost use Rattle.sending.specs.Sending.{new_sender, event_in_range, event_questions, event, due_of, due_questions, next_refresh};
+ghost use Rattle.sending.specs.Sending.{after_packet, due};
 ghost use Rattle.sending.specs.Runs.{SendsLawfully, KeepsItsMoments};
 ghost use Rattle.sending.specs.Answered.{counted, put};
 

@@ -10,4 +10,5 @@ returns-in-Err c =
     ∙ no_here c.args.offered.now c.loop-place.place c.loop-place-test.true _ c.in-Err.ensures))
 
 pub loop-place-preserved : goal.loop-place-preserved
-loop-place-preserved c = c.loop-place.invariant ∙ no_later c.args.offered.now c.loop-place.place c.loop-place-test.true c.in_default.field-0 c.in_default.ensures
+loop-place-preserved c = c.loop-place.invariant
+    ∙ no_later c.args.offered.now c.loop-place.place c.loop-place-test.true c.in_default.field-0 c.in_default.ensures
