@@ -26,7 +26,6 @@ pub struct Digit {
 }
 
 impl Digit {
-    ghost use Rattle.std.specs.Prelude.{◌≡◌};
     ghost use Rattle.kinds.specs.Digits.{digit_in, level_of, make, make_key};
 
     /// The digit of a digit type, by its number, and a code, at a level in whole dBm0: 0 and above give the level 0, and -31 and

@@ -61,7 +61,7 @@ impl<K: Kind> Sender<K> {
     /// called on a new stream, what it sends is lawful.
     ///
     /// Refused, and then unchanged, in this order: 10, no time; 15, before the latest event or due call that was not refused;
-    /// 16, not later than the latest event and the last refresh.
+    /// 16, not later than the latest event, or than the last refresh.
     #[tactic(auto, using(crate::proofs::Histories::sends_lawfully))]
     pub fn event(&mut self, time: u64, message: K::Message) -> Result<(), Refusal>
         ensures value { result ≡ (event self.old time message).0 }
@@ -70,7 +70,7 @@ impl<K: Kind> Sender<K> {
         ensures in_range { event_in_range self.new.latest ≡ true }
         ensures lawful { SendsLawfully K.Kind.model }
     {
-        // (does nothing: at a field's first use a proof learns the type's invariant, which each way out has to tell)
+        // (For the proof alone: once a field was read, the type's invariant is known on every way out, and `in_range` tells it.)
         let _ = &self.latest;
         let time = Time::new(time).ok_or(SendingFault::TimeOutOfRange)?;
         self.check_event(time)?;
@@ -114,7 +114,7 @@ impl<K: Kind> Sender<K> {
         ensures in_range { event_in_range self.new.latest ≡ true }
         ensures moments { KeepsItsMoments K.Kind.model }
     {
-        // (does nothing: at a field's first use a proof learns the type's invariant, which each way out has to tell)
+        // (For the proof alone: once a field was read, the type's invariant is known on every way out, and `in_range` tells it.)
         let _ = &self.latest;
         let time = Time::new(time).ok_or(SendingFault::TimeOutOfRange)?;
         self.check_due(time, out.len())?;
