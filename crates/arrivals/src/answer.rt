@@ -3,10 +3,8 @@ ghost use Rattle.std.specs.Prelude.{◌≡◌};
 ghost use Rattle.arrivals.specs.Answers.{to_digit, to_cas};
 
 use examples::refused::Refused;
-use kinds::cas::CasBits;
-use kinds::digit::Digit;
-use placing::receiver::MessageNews;
-use placing::stream::{Moved, Told};
+use kinds::{CasBits, Digit};
+use placing::{MessageNews, Moved, Told};
 use refusal::Refusal;
 use std::fmt;
 

@@ -1,6 +1,5 @@
 // A call, by its words. The first says what is asked.
-use profile::entry::Entry;
-use profile::examples::Example;
+use profile::{Entry, Example};
 
 // (A time past the last, and octets that are malformed, are found where they are used.)
 #[derive(Clone, Copy)]

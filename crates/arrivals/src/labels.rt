@@ -5,9 +5,8 @@ ghost use Rattle.arrivals.specs.declared.answer.Answer.TheVariants.{Begun};
 ghost use Rattle.arrivals.specs.Answers.{to_label};
 
 use crate::answer::Answer;
-use placing::span::Labelling;
-use placing::stream::Stream;
-use refusal::times::Time;
+use placing::{Labelling, Stream};
+use refusal::Time;
 
 #[derive(Clone, Copy)]
 pub struct Labels {

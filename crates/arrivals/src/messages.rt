@@ -2,12 +2,9 @@
 ghost use Rattle.std.specs.Prelude.{◌≡◌};
 ghost use Rattle.arrivals.specs.Answers.{hear};
 
-use placing::receiver::{MessageNews, Receiver};
-use placing::stream::Told;
-use refusal::Refusal;
-use refusal::times::Time;
-use type3::kind::Kind;
-use type3::reading::read_payload;
+use placing::{MessageNews, Receiver, Told};
+use refusal::{Refusal, Time};
+use type3::{Kind, read_payload};
 
 // Octets arrive at a time: they are read, and what they say is received.
 pub fn hear<K: Kind>(

@@ -8,13 +8,10 @@ use crate::call::{Call, Packet};
 use crate::labels::Labels;
 use crate::messages::hear;
 use examples::hex::{Letters, octets_of};
-use kinds::cas::Cas;
-use kinds::digits::Digits;
-use placing::receiver::Receiver;
-use placing::span::Labelling;
-use profile::load::LoadError;
-use profile::profile::Profile;
-use refusal::times::Time;
+use kinds::{Cas, Digits};
+use placing::{Labelling, Receiver};
+use profile::{LoadError, Profile};
+use refusal::Time;
 use std::alloc::Global;
 
 #[derive(Drop)]

@@ -2,15 +2,13 @@
 #![tactic(auto)]
 
 use examples::hex::Hex;
-use kinds::cas::{Cas, CasBits};
-use kinds::digit::Digit;
-use kinds::digits::Digits;
-use placing::stream::Told;
-use profile::examples::Example;
+use kinds::{Cas, CasBits, Digit, Digits};
+use placing::Told;
+use profile::Example;
 use trunk::answer::{Arrived, Which};
 use trunk::service::InService;
 use trunk::set_up::SetUp;
-use type3::payload::{Either, LONGEST, TYPE_3_UUI};
+use type3::{Either, LONGEST, TYPE_3_UUI};
 
 #[cfg(test)]
 mod tests;

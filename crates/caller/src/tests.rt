@@ -1,10 +1,10 @@
 // Two ends and a list of calls run, where there is memory; in the second list packets keep their order.
-use kinds::digit::Digit;
+use kinds::Digit;
 use samples::sample::{sample, sample_in_order};
 use network::side::Side;
 use std::test::Fail;
 use trunk::answer::Which;
-use type3::payload::Either;
+use type3::Either;
 
 #[test]
 fn the_sample_runs(rt: HostRuntime) -> Result<(), Fail> {

@@ -1,5 +1,6 @@
 -- What the check finds. Assumes nothing.
-use Rattle.std.proofs.Common.{◌≡◌, ℕ, zero, suc, ◌+◌, ◌/◌, ◌%◌, ◌^◌, ◌<◌, ◌≤◌, Bool, true, false, not, ◌||◌, eqb, ◌≢◌, List, [], ◌∷◌, length, drop, refl, ap, arith, pow_mono, bit_xor}
+use Rattle.std.proofs.Common.{◌≡◌, ℕ, zero, suc, ◌+◌, ◌/◌, ◌%◌, ◌^◌, ◌<◌, ◌≤◌, Bool, true, false, not, ◌||◌, eqb, ◌≢◌, List, [], ◌∷◌}
+use Rattle.std.proofs.Common.{length, drop, refl, ap, arith, pow_mono, bit_xor}
 use Rattle.std.proofs.lemmas.Bool.{eqb-true}
 use Rattle.crc10.specs.Division.{coefficient, bring_down, divide_on, remainder}
 use Rattle.crc10.specs.Check.{bits}

@@ -1,5 +1,6 @@
 -- A payload's last two octets: the check field in them, and what stays as it is where only its ten bits change. Assumes nothing.
-use Rattle.std.proofs.Common.{◌≡◌, ℕ, suc, ◌+◌, ◌-◌, ◌*◌, ◌/◌, ◌%◌, ◌<◌, ◌≤◌, Bool, false, eqb, List, [], ◌∷◌, ◌++◌, length, get_or, take, drop, replicate, sym, refl, ap, ◌∙◌, ap₂, arith, length-append, take-append-drop, shr-shr}
+use Rattle.std.proofs.Common.{◌≡◌, ℕ, suc, ◌+◌, ◌-◌, ◌*◌, ◌/◌, ◌%◌, ◌<◌, ◌≤◌, Bool, false, eqb, List, [], ◌∷◌, ◌++◌, length, get_or, take}
+use Rattle.std.proofs.Common.{drop, replicate, sym, refl, ap, ◌∙◌, ap₂, arith, length-append, take-append-drop, shr-shr}
 use Rattle.std.proofs.lemmas.Grind.{common_steps}
 use Rattle.std.proofs.lemmas.List.{drop_more, drop_all}
 use Rattle.std.proofs.lemmas.Bool.{eqb-true}
@@ -60,7 +61,11 @@ pub checked_end : (pre : List ℕ) (z w y v : ℕ) → take 6 (octet_bits z) ≡
     → checked (pre ++ (z ∷ w ∷ [])) ≡ checked (pre ++ (y ∷ v ∷ []))
 checked_end [] z w y v e = e
 checked_end (x ∷ pre) z w y v e =
-    cc (checked_tail x (pre ++ (z ∷ w ∷ [])) (two_more pre z w), checked_end pre z w y v e, checked_tail x (pre ++ (y ∷ v ∷ [])) (two_more pre y v))
+    cc (
+      checked_tail x (pre ++ (z ∷ w ∷ [])) (two_more pre z w),
+      checked_end pre z w y v e,
+      checked_tail x (pre ++ (y ∷ v ∷ [])) (two_more pre y v),
+    )
 
 -- the six high bits of an octet are those of its quarter
 abbrev six : ℕ → List Bool

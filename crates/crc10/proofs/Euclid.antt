@@ -1,5 +1,6 @@
 -- Long division is division with remainder: there is a quotient, and the remainder is the only one. Assumes nothing.
-use Rattle.std.proofs.Common.{◌≡◌, ℕ, zero, suc, ◌+◌, ◌*◌, ◌/◌, ◌^◌, ◌<◌, Bool, true, false, eqb, List, [], ◌∷◌, ◌++◌, length, replicate, sym, refl, ap, ◌∙◌, pow-suc, zero-mul, arith, length-append, pow_pos, pow-add, bit_xor}
+use Rattle.std.proofs.Common.{◌≡◌, ℕ, zero, suc, ◌+◌, ◌*◌, ◌/◌, ◌^◌, ◌<◌, Bool, true, false, eqb, List, [], ◌∷◌, ◌++◌, length, replicate}
+use Rattle.std.proofs.Common.{sym, refl, ap, ◌∙◌, pow-suc, zero-mul, arith, length-append, pow_pos, pow-add, bit_xor}
 use Rattle.std.specs.Int.Bits.{xor_assoc, xor_self, xor_shifted, xor_zero_r}
 use Rattle.std.proofs.lemmas.Nat.{xor_block, xor_comm, xor_lt}
 use Rattle.std.proofs.lemmas.List.{length-replicate}
@@ -100,7 +101,8 @@ product_xor (x ∷ xs) (y ∷ ys) e =
       coefficient_times x y (2 ^ length xs),
       f,
       product_xor xs ys f,
-      xor_swap (coefficient x * generator * 2 ^ length xs) (coefficient y * generator * 2 ^ length ys) (product xs generator) (product ys generator),
+      xor_swap (coefficient x * generator * 2 ^ length xs) (coefficient y * generator * 2 ^ length ys) (product xs generator)
+          (product ys generator),
     )
 
 -- zeros in front change no product

@@ -1,6 +1,7 @@
 -- The laws of the division: a remainder has degree below 10, bits can be divided in parts, and the remainder of a sum is the sum of
 -- the remainders. Assumes nothing.
-use Rattle.std.proofs.Common.{◌≡◌, ℕ, zero, suc, ◌+◌, ◌*◌, ◌/◌, ◌<◌, Bool, true, false, eqb, ltb, List, [], ◌∷◌, ◌++◌, length, refl, ap, ◌∙◌, arith, bit_xor}
+use Rattle.std.proofs.Common.{◌≡◌, ℕ, zero, suc, ◌+◌, ◌*◌, ◌/◌, ◌<◌, Bool, true, false, eqb, ltb, List, [], ◌∷◌, ◌++◌, length, refl, ap}
+use Rattle.std.proofs.Common.{◌∙◌, arith, bit_xor}
 use Rattle.std.specs.Int.Bits.{xor_assoc}
 use Rattle.std.proofs.lemmas.Nat.{xor_block, xor_comm, xor_lt, xor_shr}
 use Rattle.std.proofs.lemmas.Bool.{ltb-true, eqb-true}
@@ -34,7 +35,13 @@ times (suc (suc a)) b h k = absurd (omega arith)
 
 reduced_xor : (t u : ℕ) → t < 2048 → u < 2048 → reduced (bit_xor t u) ≡ bit_xor (reduced t) (reduced u)
 reduced_xor t u h k =
-    rw (taken (bit_xor t u) (xor_lt 11 t u h k), taken t h, taken u k, xor_shr t u 10, times (t / 1024) (u / 1024) (omega arith) (omega arith))
+    rw (
+      taken (bit_xor t u) (xor_lt 11 t u h k),
+      taken t h,
+      taken u k,
+      xor_shr t u 10,
+      times (t / 1024) (u / 1024) (omega arith) (omega arith),
+    )
     (xor_swap t u (t / 1024 * generator) (u / 1024 * generator))
 
 coefficient_unlike : (a b : Bool) → coefficient (unlike a b) ≡ bit_xor (coefficient a) (coefficient b)

@@ -1,6 +1,7 @@
 -- The remainder of a whole payload is its CRC plus its check field, so the check is right exactly where nothing remains.
 -- Assumes nothing.
-use Rattle.std.proofs.Common.{◌≡◌, ℕ, zero, suc, ◌+◌, ◌-◌, ◌*◌, ◌^◌, ◌<◌, ◌≤◌, Bool, true, false, eqb, ltb, List, [], ◌∷◌, length, drop, replicate, sym, refl, ◌∙◌, pow-suc, arith, length-drop, take-append-drop, pow_mono, bit_xor}
+use Rattle.std.proofs.Common.{◌≡◌, ℕ, zero, suc, ◌+◌, ◌-◌, ◌*◌, ◌^◌, ◌<◌, ◌≤◌, Bool, true, false, eqb, ltb, List, [], ◌∷◌, length, drop}
+use Rattle.std.proofs.Common.{replicate, sym, refl, ◌∙◌, pow-suc, arith, length-drop, take-append-drop, pow_mono, bit_xor}
 use Rattle.std.specs.Int.Bits.{xor_assoc, xor_self, xor_zero_r}
 use Rattle.std.proofs.lemmas.List.{length-replicate}
 use Rattle.std.proofs.lemmas.Bool.{lt-ltb, cond-true}

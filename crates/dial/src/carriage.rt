@@ -5,10 +5,9 @@ use dialling::heard::Reply;
 use dialling::octets::{copied, spoiled};
 use network::call::{Answer, Call, Turn};
 use network::side::Side;
-use refusal::times::Time;
+use refusal::Time;
 use std::alloc::{AllocError, Global};
-use type3::payload::{LONGEST, TYPE_3_UUI};
-use type3::written::Written;
+use type3::{LONGEST, TYPE_3_UUI, Written};
 
 // A packet that a call made, by the place of the call.
 #[derive(Clone, Copy)]

@@ -1,13 +1,11 @@
 // What the caller does, and the calls on the near end that come of it. Times are in milliseconds of its clock.
 use dialling::tone::{Tone, held, pause_before};
-use kinds::cas::CasBits;
-use kinds::digit::{Digit, TONE_OFF};
-use kinds::system::System;
+use kinds::{CasBits, Digit, System, TONE_OFF};
 use network::call::{Call, Turn};
 use network::side::Side;
 use std::alloc::{AllocError, Global};
 use trunk::answer::Which;
-use type3::payload::{Either, LONGEST};
+use type3::{Either, LONGEST};
 
 pub type Message = Either<Digit, CasBits>;
 

@@ -3,15 +3,13 @@ use crate::script::{Asked, time_of};
 use crate::words::{Carried, Heard, Packet, Said};
 use dialling::heard::Reply;
 use dialling::tone::Tone;
-use kinds::cas::CasBits;
-use kinds::digit::Digit;
+use kinds::{CasBits, Digit};
 use network::call::{Answer, Call};
 use network::side::Side;
-use placing::receiver::Class;
-use placing::stream::Told;
+use placing::{Class, Told};
 use std::fmt;
 use trunk::answer::Arrived;
-use type3::payload::{Either, TYPE_3_UUI};
+use type3::{Either, TYPE_3_UUI};
 
 // What came of a packet: sent and not lost, lost, or how it was answered where it arrived.
 #[derive(Clone, Copy, PartialEq)]

@@ -1,18 +1,12 @@
 // Messages, packets and answers as text.
 use crate::script::Message;
 use examples::hex::Hex;
-use kinds::cas::{Cas, CasBits};
-use kinds::digit::Digit;
-use kinds::digits::Digits;
-use kinds::keys::key_of;
-use placing::receiver::MessageNews;
-use placing::stream::Told;
+use kinds::{Cas, CasBits, Digit, Digits, key_of};
+use placing::{MessageNews, Told};
 use refusal::Refusal;
 use std::fmt;
 use trunk::answer::Arrived;
-use type3::bounded::Redundancy;
-use type3::payload::{Either, TYPE_3_UUI};
-use type3::reading::read_either;
+use type3::{Either, Redundancy, TYPE_3_UUI, read_either};
 
 // A message.
 #[derive(Drop)]

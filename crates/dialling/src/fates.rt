@@ -2,7 +2,7 @@
 ghost use Rattle.std.specs.Prelude.{◌≡◌, ◌<◌, ◌^◌};
 ghost use Rattle.dialling.specs.Network.{fate, arrival, again, held_back, at, deliveries, far_time};
 
-use refusal::times::Time;
+use refusal::Time;
 
 // Packets of a sort are numbered by themselves, and have a delay of their own.
 #[derive(Clone, Copy, PartialEq)]

@@ -3,11 +3,9 @@ ghost use Rattle.std.specs.Prelude.{◌≡◌, IfOk};
 ghost use Rattle.dialling.specs.Heard.{ends, after, is_new, new_digit, hears, tones_heard};
 
 use crate::tone::Tone;
-use kinds::cas::CasBits;
-use kinds::digit::{Digit, TONE_OFF};
+use kinds::{CasBits, Digit, TONE_OFF};
 use network::call::Answer;
-use placing::receiver::Class;
-use placing::stream::Told;
+use placing::{Class, Told};
 use std::alloc::{AllocError, Global};
 use trunk::answer::Arrived;
 

@@ -2,8 +2,7 @@
 ghost use Rattle.std.specs.Prelude.{◌≡◌, take, length};
 ghost use Rattle.dialling.specs.Network.{spoiled};
 
-use type3::payload::LONGEST;
-use type3::written::Written;
+use type3::{LONGEST, Written};
 
 // The octet of which a bit is changed.
 const THIRD: usize = 2;

@@ -2,7 +2,7 @@
 ghost use Rattle.std.specs.Prelude.{◌≡◌};
 ghost use Rattle.dialling.specs.Dialling.{held, pause_before};
 
-use kinds::digit::Digit;
+use kinds::Digit;
 
 // A tone, as a caller makes it or as a listener hears it, and the pause before it.
 #[derive(Clone, Copy, PartialEq)]

@@ -2,7 +2,7 @@
 ghost use Rattle.std.specs.Prelude.{◌≡◌};
 ghost use Rattle.examples.specs.Bits.{bit_of, bits_of};
 
-use kinds::cas::CasBits;
+use kinds::CasBits;
 
 // A signalling bit by its digit.
 fn bit_of(digit: u8) -> Option<bool>

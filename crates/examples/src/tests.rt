@@ -1,15 +1,10 @@
 // Payloads that are known octet by octet.
+use crate::plain::Plain;
 use crate::wide::{Mark, Wide};
 use crc10::crc_of;
-use kinds::cas::{Cas, CasBits};
-use kinds::digit::Digit;
-use kinds::digits::Digits;
-use kinds::system::System;
+use kinds::{Cas, CasBits, Digit, Digits, System};
 use std::test::Fail;
-use type3::bounded::{Redundancy, Stamp};
-use type3::payload::Payload;
-use type3::reading::{read_either, read_payload};
-use type3::writing::write_payload;
+use type3::{Payload, Redundancy, Stamp, read_either, read_payload, write_payload};
 
 const NO_BITS: CasBits = CasBits {
     a: false,
@@ -144,5 +139,17 @@ fn a_third_kind(rt: HostRuntime) -> Result<(), Fail> {
     assert_eq!(rt; read.message, Mark::Two);
     assert_eq!(rt; read.stamp.get(), 256);
     assert_eq!(rt; refused(&octets), Some(25));
+    Ok(())
+}
+
+#[test]
+fn a_kind_of_plain_numbers(rt: HostRuntime) -> Result<(), Fail> {
+    let mut octets = [0xff; 6];
+    assert_eq!(rt;
+        write_payload::<Plain>(payload(0, 0, 0x1234)?, &mut octets)?,
+        6
+    );
+    assert!(rt; octets == [0x00, 0x00, 0x12, 0x34, 0xf9, 0x25]);
+    assert_eq!(rt; read_payload::<Plain>(&octets)?.message, 0x1234);
     Ok(())
 }

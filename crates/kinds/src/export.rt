@@ -1,4 +1,4 @@
-// What a C program is told of a payload. The static library over this crate calls it.
+//! What a C program is told of a payload. The static library over this crate calls it, under the C name.
 ghost use Rattle.std.specs.Prelude.{◌≡◌};
 ghost use Rattle.type3.specs.Octets.{read_either};
 ghost use Rattle.kinds.specs.Cas.{cas};
@@ -9,14 +9,14 @@ use crate::cas::{Cas, CasBits};
 use crate::digit::Digit;
 use crate::digits::Digits;
 use refusal::{Refusal, Type3Fault};
-use type3::kind::Kind;
-use type3::payload::{Either, Payload};
-use type3::reading::read_either;
+use type3::{Either, Kind, Payload, read_either};
 
-// Reads one payload of digits or of CAS. Read, it is message type × 65,536 + octet 1 × 256 + octet 2 of the payload; refused,
-// the refusal's number, and where the kind does not read the body that number + 256 × the cause.
+/// Reads one payload of digits or of CAS. Read, it is message type × 65,536 + octet 1 × 256 + octet 2 of the payload.
+///
+/// Refused, it is the refusal's number, 23 to 27 in this order, and of 27 that number + 256 × the cause. Those are all below
+/// 131,072, and a payload that is read gives that or more.
 #[tactic(auto, using(crate::proofs::Numbers::refused_told))]
-pub fn gublaisma_read_type3(payload: &[u8]) -> u32
+pub fn read_as_number(payload: &[u8]) -> u32
     ensures value { result ≡ told payload.now }
     ensures apart { Apart (read_either digits cas payload.now) result }
 {

@@ -1,8 +1,8 @@
-// The keys of a telephone.
+//! The keys of a telephone.
 ghost use Rattle.std.specs.Prelude.{◌≡◌, Some, IfSome, is_some, nat_le};
 ghost use Rattle.kinds.specs.Keys.{key_code};
 
-// The DTMF code of a key that is named by its character.
+/// The DTMF code, 0 to 15, of a key that is named by its character: `0` to `9`, `*`, `#`, `A` to `D`.
 pub fn key_code(key: char) -> Option<u8>
     ensures { result ≡ key_code key }
 {
@@ -27,7 +27,7 @@ pub fn key_code(key: char) -> Option<u8>
     }
 }
 
-// The key of a DTMF code.
+/// The key of a DTMF code, 0 to 15.
 pub fn key_of(code: u8) -> Option<char>
     ensures key { IfSome result (λ key. key_code key ≡ Some code) }
     ensures known { is_some result ≡ nat_le code 15 }

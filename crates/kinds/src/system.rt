@@ -1,4 +1,4 @@
-// The digit types: the signalling system whose tone a digit is.
+//! The digit types (I.366.2): the signalling system whose tone a digit is.
 ghost use Rattle.std.specs.Prelude.{◌≡◌};
 ghost use Rattle.std.specs.Option.{ok_or};
 ghost use Rattle.refusal.specs.declared.KindFault.TheVariants.{DigitType};
@@ -8,11 +8,16 @@ ghost use Rattle.kinds.specs.Systems.{number_of, system_of};
 use crate::digit::TONE_OFF;
 use refusal::KindFault;
 
+/// A digit type.
 #[derive(Clone, Copy, Debug, PartialEq, Eq)]
 pub enum System {
+    /// type 0: the keys of a telephone
     Dtmf,
+    /// type 1
     MfR1,
+    /// type 2
     MfR2Forward,
+    /// type 3
     MfR2Backward,
 }
 

@@ -1,5 +1,5 @@
-// What a C program calls: the library's reading of type 3 payloads, under its C name. (A crate of its own, since the toolchain
-// builds a crate as a library or as a static library.)
+//! What a C program calls: the library's reading of type 3 payloads, under its C name. (A crate of its own, since the toolchain
+//! builds a crate as a library or as a static library.)
 #![tactic(auto)]
 
 ghost use Rattle.std.specs.Prelude.{◌≡◌};
@@ -8,14 +8,16 @@ ghost use Rattle.kinds.specs.Cas.{cas};
 ghost use Rattle.kinds.specs.Digits.{digits};
 ghost use Rattle.kinds.specs.Export.{told, Apart};
 
-use kinds::export;
+use kinds::read_as_number;
 
-// Reads one payload of digits or of CAS. Read, it is message type × 65,536 + octet 1 × 256 + octet 2 of the payload; refused,
-// the refusal's number, and where the kind does not read the body that number + 256 × the cause.
+/// Reads one payload of digits or of CAS. Read, it is message type × 65,536 + octet 1 × 256 + octet 2 of the payload.
+///
+/// Refused, it is the refusal's number, 23 to 27 in this order, and of 27 that number + 256 × the cause. Those are all below
+/// 131,072, and a payload that is read gives that or more.
 #[unsafe(no_mangle)]
 pub extern "C" fn gublaisma_read_type3(payload: &[u8]) -> u32
     ensures value { result ≡ told payload.now }
     ensures apart { Apart (read_either digits cas payload.now) result }
 {
-    export::gublaisma_read_type3(payload)
+    read_as_number(payload)
 }

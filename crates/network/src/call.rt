@@ -2,8 +2,7 @@
 use crate::side::Side;
 use refusal::Refusal;
 use trunk::answer::{Arrived, Which};
-use type3::payload::LONGEST;
-use type3::written::Written;
+use type3::{LONGEST, Written};
 
 // A call on an end, with octets `O` and a message `M`. (They are type arguments, since an enum may not hold both a reference and
 // a struct that has a ghost field, as digits have.)

@@ -8,11 +8,10 @@ ghost use Rattle.network.specs.Once.{EachEventOnce};
 
 use crate::call::{Answer, Turn};
 use crate::ends::Ends;
-use profile::load::LoadError;
+use profile::LoadError;
 use std::alloc::Global;
 use trunk::set_up::SetUp;
-use type3::kind::Kind;
-use type3::payload::Either;
+use type3::{Either, Kind};
 
 // The two ends after a list of calls, and each call's answer.
 #[derive(Drop)]

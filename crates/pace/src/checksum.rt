@@ -3,13 +3,11 @@ ghost use Rattle.std.specs.Prelude.{◌≡◌};
 ghost use Rattle.pace.specs.Checksum.{add, of_digit, of_force, of_moved, of_audio, of_class, of_news, of_refusal, of_answer};
 ghost use Rattle.kinds.specs.Cas.{octet};
 
-use kinds::cas::CasBits;
-use kinds::digit::Digit;
-use placing::receiver::{Class, MessageNews};
-use placing::stream::{Moved, Told};
+use kinds::{CasBits, Digit};
+use placing::{Class, MessageNews, Moved, Told};
 use refusal::Refusal;
 use trunk::answer::{Arrived, AudioNews};
-use type3::payload::Either;
+use type3::Either;
 
 // The sum so far, and a further number.
 pub fn add(sum: u64, number: u64) -> u64

@@ -1,8 +1,7 @@
 // A lap: a fresh end, and every packet of a list arrives.
 use crate::checksum::{add, of_answer, of_force};
 use crate::list::List;
-use kinds::cas::Cas;
-use kinds::digits::Digits;
+use kinds::{Cas, Digits};
 use std::alloc::Global;
 use trunk::answer::Which;
 use trunk::set_up::SetUp;

@@ -1,7 +1,7 @@
 // A list of arrivals, and the profile that they arrive under.
 use anyhow::Context;
 use examples::hex::{Letters, octets_of};
-use profile::entry::Entry;
+use profile::Entry;
 use std::alloc::Global;
 use std::io::{BufRead, BufReader};
 

@@ -36,7 +36,8 @@ pub told_rightly : (span unit start : ℕ) (y x : Point) → Tells span unit y �
     → told span unit (Some (latest y (y.time - start))) x.label x.arrival ≡ expected_beside start (Some y) x
 told_rightly span unit start y x ty tx arrivals ages begun in_time = by (order y.time x.time)
   where
-    by_elapsed : (d : ℤ) → pos x.time -ℤ pos y.time ≡ d → told span unit (Some (latest y (y.time - start))) x.label x.arrival ≡ told_by (y.time - start) (Some d)
+    by_elapsed : (d : ℤ) → pos x.time -ℤ pos y.time ≡ d
+        → told span unit (Some (latest y (y.time - start))) x.label x.arrival ≡ told_by (y.time - start) (Some d)
     by_elapsed d e = ap (told_by (y.time - start)) (placed_where_made span unit y x ty tx arrivals ages ∙ ap Some e)
 
     by : Order y.time x.time → told span unit (Some (latest y (y.time - start))) x.label x.arrival ≡ expected_beside start (Some y) x

@@ -1,6 +1,7 @@
 -- A stream of arrivals holds the one that was made for the latest time, which was the latest news; and what one more arrival is
 -- there. It is said of things of any type that have a point and are news or not. Assumes nothing.
-use Rattle.std.proofs.Common.{◌≡◌, ℕ, ◌+◌, ◌-◌, ◌*◌, ◌<◌, ◌≤◌, Bool, true, false, cond, ltb, List, [], ◌∷◌, ◌++◌, ◌-ℤ◌, nat_abs, Some, None, Ok, Option, Result, sym, refl, ap, ◌∙◌, subst, arith}
+use Rattle.std.proofs.Common.{◌≡◌, ℕ, ◌+◌, ◌-◌, ◌*◌, ◌<◌, ◌≤◌, Bool, true, false, cond, ltb, List, [], ◌∷◌, ◌++◌, ◌-ℤ◌, nat_abs, Some, None}
+use Rattle.std.proofs.Common.{Ok, Option, Result, sym, refl, ap, ◌∙◌, subst, arith}
 use Rattle.std.specs.List.{list_all, filter}
 use Rattle.std.proofs.lemmas.Bool.{lt-ltb, le-ltb, both_ways}
 use Rattle.std.specs.Option.{option_map}
@@ -75,7 +76,8 @@ module _ {X : Type 0} (point : X → Point) (news : X → Bool) (span unit : ℕ
     later : list_all (λ b. ltb (time b) x.time) (first ∷ xs) ≡ ltb (time y) x.time
     later = all_below time (first ∷ xs) x.time ∙ ap (λ o. below time o x.time) h.leads
 
-    expects : expected_beside (time first) (option_map point (greatest time (first ∷ xs))) x ≡ expected_beside (time first) (Some (point y)) x
+    expects : expected_beside (time first) (option_map point (greatest time (first ∷ xs))) x
+        ≡ expected_beside (time first) (Some (point y)) x
     expects = ap (λ o. expected_beside (time first) (option_map point o) x) h.leads
 
     leader : (z : X) → point z ≡ x → (b : Bool) → ltb (time y) x.time ≡ b → greatest time ((first ∷ xs) ++ (z ∷ [])) ≡ Some (cond b z y)
@@ -84,7 +86,8 @@ module _ {X : Type 0} (point : X → Point) (news : X → Bool) (span unit : ℕ
         ∙ ap (λ c. Some (cond c z y)) (ap (λ (p : Point). ltb (time y) p.time) e ∙ t)
 
     -- made for a later time, it is news
-    is_newer : Tells span unit x → time y < x.time → Next (first ∷ xs) s x (Ok (News (record { elapsed = x.time - time y; position = x.time - time first })))
+    is_newer : Tells span unit x → time y < x.time
+        → Next (first ∷ xs) s x (Ok (News (record { elapsed = x.time - time y; position = x.time - time first })))
     is_newer tx l =
         let b = h.begun in
         let t = lt-ltb (time y) x.time l in

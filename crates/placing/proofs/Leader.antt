@@ -45,7 +45,9 @@ module _ {X : Type 0} (number : X → ℕ) where
 
     all_passed : (xs : List X) → list_all passes xs ≡ true → passed (greatest number xs) ≡ true
     all_passed [] h = refl
-    all_passed (x ∷ xs) h = let p = and_parts (passes x) (list_all passes xs) h in more_passes x (greatest number xs) p.0 (all_passed xs p.1)
+    all_passed (x ∷ xs) h =
+        let p = and_parts (passes x) (list_all passes xs) h in
+        more_passes x (greatest number xs) p.0 (all_passed xs p.1)
 
     pub greatest_passes : (xs : List X) (y : X) → list_all passes xs ≡ true → greatest number xs ≡ Some y → passes y ≡ true
     greatest_passes xs y h e = sym (ap passed e) ∙ all_passed xs h

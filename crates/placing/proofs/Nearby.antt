@@ -1,5 +1,6 @@
 -- Numbers that agree modulo a span, and which of them is nearest. Assumes nothing.
-use Rattle.std.proofs.Common.{◌≡◌, ℕ, suc, ◌+◌, ◌-◌, ◌*◌, ◌/◌, ◌%◌, ◌<◌, Bool, true, false, cond, ltb, ℤ, pos, negsuc, ◌+ℤ◌, ◌-ℤ◌, ◌*ℤ◌, Some, None, Option, ◌⊎◌, inl, inr, sym, refl, ap, ◌∙◌, subst, mod-lt, suc-mul, add-mul, div-add-mod', arith}
+use Rattle.std.proofs.Common.{◌≡◌, ℕ, suc, ◌+◌, ◌-◌, ◌*◌, ◌/◌, ◌%◌, ◌<◌, Bool, true, false, cond, ltb, ℤ, pos, negsuc, ◌+ℤ◌, ◌-ℤ◌, ◌*ℤ◌}
+use Rattle.std.proofs.Common.{Some, None, Option, ◌⊎◌, inl, inr, sym, refl, ap, ◌∙◌, subst, mod-lt, suc-mul, add-mul, div-add-mod', arith}
 use lib.IntN.{ℤ_discrete}
 use Rattle.std.proofs.lemmas.Int.{ints}
 use Rattle.std.proofs.lemmas.Bool.{ltb-true, ltb-false, cases_order}
@@ -182,7 +183,8 @@ found_is span labels gap d None f n = absurd (f d n)
 found_is span labels gap d (Some e) f n = ap Some (only_one span labels gap e d f n)
 
 -- A number that agrees with the labels' difference and lies less than half a span from the gap is the one that is found.
-pub nearest_is : (span : ℕ) (labels : ℤ) (gap : ℕ) (d : ℤ) → Agrees span d labels → 2 * distance d gap < span → nearest span labels gap ≡ Some d
+pub nearest_is : (span : ℕ) (labels : ℤ) (gap : ℕ) (d : ℤ) → Agrees span d labels → 2 * distance d gap < span
+    → nearest span labels gap ≡ Some d
 nearest_is span labels gap d a h =
     found_is span labels gap d (nearest span labels gap) (finds_nearest span labels gap (omega arith)) (closest span labels gap d a h)
 

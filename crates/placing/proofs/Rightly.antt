@@ -1,5 +1,6 @@
 -- Every list of arrivals on a new stream is placed rightly. Assumes nothing.
-use Rattle.std.proofs.Common.{◌≡◌, ℕ, ◌*◌, Bool, true, ltb, leb, List, [], ◌∷◌, ◌++◌, ◌-ℤ◌, nat_abs, Some, None, Ok, Option, Result, sym, refl, ap, ◌∙◌, subst}
+use Rattle.std.proofs.Common.{◌≡◌, ℕ, ◌*◌, Bool, true, ltb, leb, List, [], ◌∷◌, ◌++◌, ◌-ℤ◌, nat_abs, Some, None, Ok, Option, Result, sym}
+use Rattle.std.proofs.Common.{refl, ap, ◌∙◌, subst}
 use Rattle.std.specs.List.{list_all}
 use Rattle.std.proofs.lemmas.Bool.{ltb-true, leb-true, and_parts}
 use Rattle.std.specs.Option.{option_map}
@@ -11,7 +12,8 @@ use Rattle.placing.specs.declared.stream.Told.{Told}
 use Rattle.placing.specs.declared.stream.Told.TheVariants.{News}
 use Rattle.placing.specs.Lists.{greatest, everywhere, Everywhere}
 use Rattle.placing.specs.Placing.{told, placed_after}
-use Rattle.placing.specs.Arrivals.{Point, age, Tells, Moment, history, near_age, aged, in_order, expected_beside, expected, start_of, is_news, points, Since, PlacesRightly}
+use Rattle.placing.specs.Arrivals.{Point, age, Tells, Moment, history, near_age, aged, in_order, expected_beside, expected, start_of}
+use Rattle.placing.specs.Arrivals.{is_news, points, Since, PlacesRightly}
 use Rattle.placing.proofs.Leader.{greatest_passes}
 use Rattle.placing.proofs.Moments.{points_snoc, greatest_point}
 use Rattle.placing.proofs.Hearing as hearing
@@ -50,7 +52,8 @@ module _ (span unit : ℕ) where
       let leads = greatest_point before ∙ ap (option_map point) e in
       let o = and_parts (is_time x.time) (list_all (λ z. leb z.arrival x.arrival) (points before)) ordered in
       record {
-        order = leb-true y.point.arrival x.arrival (greatest_passes (λ (z : Point). z.time) (λ z. leb z.arrival x.arrival) (points before) y.point o.1 leads);
+        order = leb-true y.point.arrival x.arrival
+            (greatest_passes (λ (z : Point). z.time) (λ z. leb z.arrival x.arrival) (points before) y.point o.1 leads);
         ages = ltb-true (2 * nat_abs (age x -ℤ age y.point)) span (sym (ap (near_age span x) leads) ∙ ages);
       }
 

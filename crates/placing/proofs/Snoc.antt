@@ -27,4 +27,5 @@ cons_option_append o xs ys = grind (arith, common_steps)
 pub gather_snoc : {X Y : Type 0} (find : List X → X → Option Y) (before xs : List X) (x : X)
     → gather find before (xs ++ (x ∷ [])) ≡ gather find before xs ++ cons_option (find (before ++ xs) x) []
 gather_snoc find before [] x = grind (arith, common_steps)
-gather_snoc find before (y ∷ xs) x = grind (arith, common_steps, cons_option_append, append_assoc, gather_snoc find (before ++ (y ∷ [])) xs x)
+gather_snoc find before (y ∷ xs) x =
+    grind (arith, common_steps, cons_option_append, append_assoc, gather_snoc find (before ++ (y ∷ [])) xs x)

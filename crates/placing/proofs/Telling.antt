@@ -39,4 +39,5 @@ between span unit y x a b =
 
 pub placed_where_made : PlacedWhereMade
 placed_where_made span unit y x ty tx order ages =
-    nearest_is span (labels_apart unit y.label x.label) (x.arrival - y.arrival) (pos x.time -ℤ pos y.time) (between span unit y x ty tx) (omega (arith, ints))
+    nearest_is span (labels_apart unit y.label x.label) (x.arrival - y.arrival) (pos x.time -ℤ pos y.time) (between span unit y x ty tx)
+    (omega (arith, ints))

@@ -1,9 +1,11 @@
 -- The arrivals on a new stream, and what is true of how they are placed, in terms of the times that packets were made for.
 -- Assumes nothing.
-use Rattle.std.specs.Prelude.{◌≡◌, ℕ, ◌+◌, ◌-◌, ◌*◌, ◌/◌, ◌%◌, ◌<◌, ◌≤◌, Bool, true, false, cond, ◌&&◌, List, [], ◌∷◌, ℤ, pos, ◌-ℤ◌, Some, None, Ok, Err, Option, Result, ◌==◌, nat_le, nat_lt, unsigned_abs}
+use Rattle.std.specs.Prelude.{◌≡◌, ℕ, ◌+◌, ◌-◌, ◌*◌, ◌/◌, ◌%◌, ◌<◌, ◌≤◌, Bool, true, false, cond, ◌&&◌, List, [], ◌∷◌, ℤ, pos, ◌-ℤ◌, Some}
+use Rattle.std.specs.Prelude.{None, Ok, Err, Option, Result, ◌==◌, nat_le, nat_lt, unsigned_abs}
 use Rattle.std.specs.List.{list_all, filter}
 use Rattle.refusal.specs.Questions.{is_time}
 use Rattle.refusal.specs.declared.Refusal.{Refusal}
+use Rattle.type3.specs.Stamps.{stamp_modulus}
 use Rattle.placing.specs.declared.stream.Placed.{Placed}
 use Rattle.placing.specs.declared.stream.Moved.{Moved}
 use Rattle.placing.specs.declared.stream.Told.{Told}
@@ -28,9 +30,9 @@ age x = pos x.arrival -ℤ pos x.time
 abbrev pub Tells : ℕ → ℕ → Point → Type 0
 Tells span unit x = Agrees span (pos (x.label * unit)) (pos x.time)
 
--- stamps tell the time so: they are the time modulo 16,384
+-- stamps tell the time so: they are the time modulo the stamps' modulus
 abbrev pub StampsTell : Type 0
-StampsTell = (x : Point) → x.label ≡ x.time % 16384 → Tells 16384 1 x
+StampsTell = (x : Point) → x.label ≡ x.time % stamp_modulus → Tells stamp_modulus 1 x
 
 -- and so do audio labels: they count whole intervals, modulo the width, from a multiple of the width on
 abbrev pub LabelsTell : Type 0

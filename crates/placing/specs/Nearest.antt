@@ -1,5 +1,6 @@
 -- The number nearest to the gap between two arrivals, among those that agree with the difference of their labels. Assumes nothing.
-use Rattle.std.specs.Prelude.{◌≡◌, ℕ, ◌+◌, ◌-◌, ◌*◌, ◌%◌, ◌<◌, cond, ℤ, pos, negsuc, ◌+ℤ◌, ◌-ℤ◌, ◌*ℤ◌, Some, None, Option, ◌≢◌, nat_lt, unsigned_abs}
+use Rattle.std.specs.Prelude.{◌≡◌, ℕ, ◌+◌, ◌-◌, ◌*◌, ◌%◌, ◌<◌, cond, ℤ, pos, negsuc, ◌+ℤ◌, ◌-ℤ◌, ◌*ℤ◌, Some, None, Option, ◌≢◌, nat_lt}
+use Rattle.std.specs.Prelude.{unsigned_abs}
 
 -- two numbers agree modulo the span where they differ by a whole number of spans
 pub record Agrees (span : ℕ) (d e : ℤ) : Type 0 where

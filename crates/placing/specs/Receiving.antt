@@ -2,6 +2,7 @@
 use Rattle.std.specs.Prelude.{ℕ, Bool, false, cond, List, codes, Some, None, Ok, Err, Option, Result, nat_lt}
 use Rattle.refusal.specs.declared.Refusal.{Refusal}
 use Rattle.type3.specs.Kinds.{Meaning}
+use Rattle.type3.specs.Stamps.{stamp_modulus}
 use Rattle.type3.specs.declared.payload.Payload.{Payload}
 use Rattle.placing.specs.declared.stream.Placed.{Placed}
 use Rattle.placing.specs.declared.stream.Moved.{Moved}
@@ -56,4 +57,4 @@ module _ {M : Type 0} where
 
     -- what a payload that was read says, arriving at a time
     abbrev pub receive : Inbound M → ℕ → Payload M → Result (Told (MessageNews M)) Refusal × Inbound M
-    receive s a x = let p = place 16384 1 s.placed x.stamp a in receive_by s x p.0 p.1
+    receive s a x = let p = place stamp_modulus 1 s.placed x.stamp a in receive_by s x p.0 p.1

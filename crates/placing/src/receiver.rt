@@ -1,24 +1,24 @@
-// The receiving half of a message stream.
-ghost use Rattle.std.specs.Prelude.{◌≡◌, Some};
+//! The receiving half of a message stream.
+ghost use Rattle.std.specs.Prelude.{◌≡◌, Some, IfErr};
 ghost use Rattle.placing.specs.Receiving.{text_of, new_receiver, class_of, receive};
 ghost use Rattle.placing.specs.InForce.{InForceIsTheLatestNews};
 
 use crate::span::Labelling;
 use crate::stream::{Moved, Stream, Told};
-use refusal::Refusal;
-use refusal::times::Time;
+use refusal::{Refusal, Time};
 use std::fmt;
 use std::marker::Model;
-use type3::bounded::Redundancy;
-use type3::kind::Kind;
-use type3::payload::Payload;
+use type3::{Kind, Payload, Redundancy};
 
-// News of a message stream: a copy of an event is an event; a refresh confirms the message in force, or recovers one that was
-// lost.
+/// News of a message stream: a copy of an event is an event; a refresh confirms the message in force, or recovers one that was
+/// lost.
 #[derive(Clone, Copy, Debug, PartialEq, Eq)]
 pub enum Class {
+    /// a copy of an event was heard for the first time
     Event,
+    /// a refresh of the message in force
     Confirmed,
+    /// a refresh of a message that was not in force: no copy of its event was news
     Recovered,
 }
 
@@ -34,15 +34,20 @@ impl fmt::Display for Class {
     }
 }
 
+/// News of a message stream.
 #[derive(Clone, Copy, Debug, PartialEq, Eq)]
 pub struct MessageNews<T> {
+    /// what sort of news it is
     pub class: Class,
+    /// which copy was heard, or that it was a refresh
     pub redundancy: Redundancy,
+    /// the time since the news before, and since the first news
     pub moved: Moved,
+    /// the message, which is in force now
     pub message: T,
 }
 
-// In contracts a receiver is its latest news, and the message in force.
+/// The receiving half of a message stream of a kind. In contracts it is its latest news, and the message in force.
 #[derive(Drop)]
 pub struct Receiver<K: Kind> {
     stream: Stream,
@@ -58,7 +63,7 @@ impl<K: Kind> Model for Receiver<K> {
 }
 
 impl<K: Kind> Receiver<K> {
-    // A new stream, on which the message in force is that of the latest news.
+    /// A new stream, on which the message in force is that of the latest news.
     pub fn new() -> Receiver<K>
         ensures new { result ≡ new_receiver }
         ensures force { InForceIsTheLatestNews K.Kind.model }
@@ -69,14 +74,17 @@ impl<K: Kind> Receiver<K> {
         }
     }
 
-    // The message in force: that of the latest news.
+    /// The message in force: that of the latest news.
     pub fn in_force(&self) -> Option<K::Message>
         ensures { result ≡ self.now.force }
     {
         self.force
     }
 
-    // A payload that was read, arriving at a time.
+    /// A payload that was read, arriving at a time.
+    ///
+    /// Refused, and then unchanged, in this order: 28, two elapsed times are equally near; 29, the position would pass the
+    /// range of times.
     pub fn receive(
         &mut self,
         time: Time,
@@ -84,6 +92,7 @@ impl<K: Kind> Receiver<K> {
     ) -> Result<Told<MessageNews<K::Message>>, Refusal>
         ensures value { result ≡ (receive K.Kind.model self.old time payload).0 }
         ensures after { self.new ≡ (receive K.Kind.model self.old time payload).1 }
+        ensures unchanged { IfErr result (λ _. self.new ≡ self.old) }
     {
         let told = self
             .stream

@@ -1,32 +1,37 @@
-// A stream of arrivals: audio, or the messages of a kind.
-ghost use Rattle.std.specs.Prelude.{◌≡◌, None};
+//! A stream of arrivals: audio, or the messages of a kind.
+ghost use Rattle.std.specs.Prelude.{◌≡◌, None, IfErr};
 ghost use Rattle.placing.specs.Placing.{place, by_sign};
 ghost use Rattle.placing.specs.Arrivals.{StampsTell, LabelsTell, PlacedWhereMade, PlacesRightly};
 ghost use Rattle.placing.specs.News.{IfNews, Changed};
 
 use crate::span::Labelling;
-use refusal::times::{Time, is_time};
-use refusal::{PlacingFault, Refusal};
+use refusal::{PlacingFault, Refusal, Time, is_time};
 use std::marker::Model;
 
-// The latest news of a stream: its label, when it arrived, and the time since the first news.
+/// The latest news of a stream: its label, when it arrived, and the time since the first news.
 #[derive(Clone, Copy, Debug, PartialEq, Eq)]
 pub struct Placed {
+    /// its label: a stamp, or a UUI as a receiver takes it
     pub label: u16,
+    /// when it arrived, in milliseconds
     pub arrival: u64,
+    /// the milliseconds since the first news
     pub position: u64,
 }
 
-// What an arrival is on its stream.
+/// What an arrival is on its stream.
 #[derive(Clone, Copy, Debug, PartialEq, Eq)]
 pub enum Told<T> {
+    /// the elapsed time is above 0, or nothing was news before
     News(T),
+    /// it is 0: made for the same time as the latest news
     Repeat,
+    /// it is below 0: made for an earlier time than the latest news
     Late,
 }
 
 impl<T> Told<T> {
-    // News is changed, all else stays.
+    /// News is changed by a function, all else stays.
     pub fn map<U, F: FnOnce(T) -> U>(self, change: F) -> Told<U>
         requires { IfNews self (F.pre change) }
         ensures { Changed (F.post change) self result }
@@ -39,14 +44,17 @@ impl<T> Told<T> {
     }
 }
 
-// The time since the news before, and since the first news. (Numbers, as a host reads them.)
+/// How far news moved its stream, in milliseconds.
+// (Numbers, as a host reads them.)
 #[derive(Clone, Copy, Debug, PartialEq, Eq)]
 pub struct Moved {
+    /// since the news before
     pub elapsed: u64,
+    /// since the first news
     pub position: u64,
 }
 
-// A stream holds its latest news, if there was any. In contracts it is that.
+/// A stream holds its latest news, if there was any. In contracts it is that.
 #[derive(Clone, Copy, Debug, PartialEq, Eq)]
 pub struct Stream {
     pub(crate) latest: Option<Placed>,
@@ -64,7 +72,7 @@ impl Model for Stream {
 }
 
 impl Stream {
-    // A new stream. Its laws: labels tell the time, and every list of arrivals on it is placed rightly.
+    /// A new stream. Its laws: labels tell the time, and every list of arrivals on it is placed rightly.
     pub fn new() -> Stream
         ensures latest { result ≡ None }
         ensures stamps { StampsTell }
@@ -75,7 +83,10 @@ impl Stream {
         Stream { latest: None }
     }
 
-    // An arrival with this label.
+    /// An arrival with this label, at a time.
+    ///
+    /// Refused, and then unchanged, in this order: 28, two elapsed times are equally near; 29, the position would pass the
+    /// range of times.
     pub fn place(
         &mut self,
         labelling: Labelling,
@@ -84,6 +95,7 @@ impl Stream {
     ) -> Result<Told<Moved>, Refusal>
         ensures value { result ≡ (place labelling.span labelling.unit self.old label time).0 }
         ensures after { self.new ≡ (place labelling.span labelling.unit self.old label time).1 }
+        ensures unchanged { IfErr result (λ _. self.new ≡ self.old) }
     {
         let told = beside(labelling, self.latest, label, time)?;
         if let Told::News(moved) = told {

@@ -1,5 +1,6 @@
 -- The refusal of a list of entries, unrolled by one entry, for the loop of `check_entries`. Assumes nothing.
-use Rattle.std.proofs.Common.{◌≡◌, suc, ◌+◌, ◌<◌, ◌≤◌, true, cond, List, [], length, get_or, take, drop, Some, None, Ok, Err, Option, ℕ, sym, ap, ◌∙◌, add-one, arith, drop-cons}
+use Rattle.std.proofs.Common.{◌≡◌, suc, ◌+◌, ◌<◌, ◌≤◌, true, cond, List, [], length, get_or, take, drop, Some, None, Ok, Err, Option, ℕ}
+use Rattle.std.proofs.Common.{sym, ap, ◌∙◌, add-one, arith, drop-cons}
 use Rattle.std.specs.Option.{option_or, option_map}
 use Rattle.std.proofs.lemmas.List.{take_more}
 use Rattle.std.proofs.lemmas.Bool.Decides.{nat_tests}
@@ -18,7 +19,8 @@ blank = record { index = None; format = 0; first = 0; last = 0; length = 0; pack
 
 pub counted : (es : List Entry) → 1 ≤ length es → length es ≤ 32 → refusal es ≡ refusal_from [] 0 es
 counted es low high =
-    let so : from_to 1 32 (length es) ≡ true = grind (arith, nat_tests) in ap (λ b. cond b (refusal_from [] 0 es) (Some (Profile EntryCount 0))) so
+    let so : from_to 1 32 (length es) ≡ true = grind (arith, nat_tests) in
+    ap (λ b. cond b (refusal_from [] 0 es) (Some (Profile EntryCount 0))) so
 
 module _ (es : List Entry) (i : ℕ) (h : i < length es) where
   abbrev fault : Option ProfileFault
@@ -42,5 +44,6 @@ module _ (es : List Entry) (i : ℕ) (h : i < length es) where
   pub no_here : (f : ProfileFault) → Err f ≡ allowed fault → refusal_from (take i es) i (drop i es) ≡ Some (Profile f i)
   no_here f s = unrolled ∙ ap (λ o. option_or o rest) (by_fault (allowed_err fault f (sym s)))
 
-  pub no_later : (x : Unit {0}) → Ok x ≡ allowed fault → refusal_from (take i es) i (drop i es) ≡ refusal_from (take (i + 1) es) (i + 1) (drop (i + 1) es)
+  pub no_later : (x : Unit {0}) → Ok x ≡ allowed fault
+      → refusal_from (take i es) i (drop i es) ≡ refusal_from (take (i + 1) es) (i + 1) (drop (i + 1) es)
   no_later tt s = unrolled ∙ ap (λ o. option_or o rest) (by_fault (allowed_ok fault (sym s)))

@@ -1,15 +1,12 @@
 // What a call is answered, in one line.
 use crate::refused::Refused;
 use examples::hex::LowerHex;
-use kinds::cas::CasBits;
-use kinds::digit::Digit;
-use placing::receiver::MessageNews;
-use placing::stream::{Moved, Told};
+use kinds::{CasBits, Digit};
+use placing::{MessageNews, Moved, Told};
 use refusal::Refusal;
 use std::fmt;
 use trunk::answer::Arrived;
-use type3::payload::{Either, LONGEST};
-use type3::written::Written;
+use type3::{Either, LONGEST, Written};
 
 // A refusal is an answer here, and no error of the program.
 #[derive(Drop)]

@@ -1,8 +1,8 @@
 // A call, by its line. The first word says what is asked.
 use crate::number::{number, number_if_any, signed_number};
 use examples::hex::{Letters, octets_of};
-use kinds::cas::CasBits;
-use profile::entry::Entry;
+use kinds::CasBits;
+use profile::Entry;
 use std::alloc::{AllocError, Global};
 use trunk::answer::Which;
 

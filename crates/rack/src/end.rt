@@ -5,8 +5,7 @@ ghost use Rattle.rack.specs.Rack.{start, stop, serve_at};
 use crate::answer::Answer;
 use crate::call::ServiceCall;
 use crate::service::{Service, serve};
-use kinds::cas::Cas;
-use kinds::digits::Digits;
+use kinds::{Cas, Digits};
 use trunk::set_up::SetUp;
 
 #[derive(Drop)]

@@ -4,12 +4,10 @@ ghost use Rattle.rack.specs.Serving.{label, made, serve};
 
 use crate::answer::Answer;
 use crate::call::{Message, ServiceCall};
-use kinds::cas::{Cas, CasBits};
-use kinds::digit::Digit;
-use kinds::digits::Digits;
+use kinds::{Cas, CasBits, Digit, Digits};
 use refusal::Refusal;
 use trunk::service::InService;
-use type3::payload::Either;
+use type3::Either;
 
 // The rack's end has digits and signalling bits as its kinds.
 pub type Service = InService<Digits, Cas>;

@@ -1,5 +1,6 @@
 -- Questions: either one was answered no, or all were answered yes. Assumes nothing.
-use Rattle.std.proofs.Common.{◌≡◌, Bool, true, false, cond, List, [], ◌∷◌, map, Ok, Err, Some, None, Option, Result, sym, refl, ap, ◌∙◌, subst}
+use Rattle.std.proofs.Common.{◌≡◌, Bool, true, false, cond, List, [], ◌∷◌, map, Ok, Err, Some, None, Option, Result, sym, refl, ap, ◌∙◌}
+use Rattle.std.proofs.Common.{subst}
 use Rattle.std.specs.List.{AllByRecursion}
 use Rattle.std.specs.Option.{option_map}
 use Rattle.refusal.specs.Questions.{asked, first_no, allowed}
@@ -18,7 +19,8 @@ module _ {X Y : Type 0} (refuse : X → Y) (does : Y) where
   asked_way [] = passed tt refl
   asked_way (q ∷ qs) = by q.0 refl (asked_way qs)
     where
-      by : (b : Bool) → q.0 ≡ b → Way qs refuse does (asked qs refuse does) → Way (q ∷ qs) refuse does (cond q.0 (asked qs refuse does) (refuse q.1))
+      by : (b : Bool) → q.0 ≡ b → Way qs refuse does (asked qs refuse does)
+          → Way (q ∷ qs) refuse does (cond q.0 (asked qs refuse does) (refuse q.1))
       by true e (refused x is) = refused x (ap (λ c. cond c (asked qs refuse does) (refuse q.1)) e ∙ is)
       by true e (passed y is) = passed (e, y) (ap (λ c. cond c (asked qs refuse does) (refuse q.1)) e ∙ is)
       by false e w = refused q.1 (ap (λ c. cond c (asked qs refuse does) (refuse q.1)) e)
@@ -58,6 +60,7 @@ module _ {F : Type 0} where
   allowed_ok (Some x) e = cc
 
   -- the refusals made of the questions' own
-  pub first_no_map : {G : Type 0} (make : F → G) (qs : List (Bool × F)) → first_no (map (λ q. (q.0, make q.1)) qs) ≡ option_map make (first_no qs)
+  pub first_no_map : {G : Type 0} (make : F → G) (qs : List (Bool × F))
+      → first_no (map (λ q. (q.0, make q.1)) qs) ≡ option_map make (first_no qs)
   first_no_map make [] = refl
   first_no_map make (q ∷ qs) = map_one make q.0 q.1 (first_no qs) _ (first_no_map make qs)

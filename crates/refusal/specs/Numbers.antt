@@ -3,7 +3,8 @@ use Rattle.std.specs.Prelude.{ℕ, List, ◌++◌, codes, decimal, Some, None, O
 use Rattle.refusal.specs.declared.Refusal.{Refusal}
 use Rattle.refusal.specs.declared.Refusal.TheVariants.{Profile, Sending, Arrival, Type3, Kind, Placing}
 use Rattle.refusal.specs.declared.ProfileFault.TheVariants.{EntryCount, UuiRange, EntryLength, Width, Times, Unlike, Duplicate}
-use Rattle.refusal.specs.declared.SendingFault.TheVariants.{TimeOutOfRange, NoEntry, PayloadLength, OffInterval, Overlap, BehindClock, NotLater, BufferTooShort}
+use Rattle.refusal.specs.declared.SendingFault.TheVariants.{TimeOutOfRange, NoEntry, PayloadLength, OffInterval, Overlap, BehindClock}
+use Rattle.refusal.specs.declared.SendingFault.TheVariants.{NotLater, BufferTooShort}
 use Rattle.refusal.specs.declared.ArrivalFault.TheVariants as arrival
 use Rattle.refusal.specs.declared.ArrivalFault.TheVariants.{RunsBack, UnknownUui, NoSuchAudio}
 use Rattle.refusal.specs.declared.Type3Fault.TheVariants.{PayloadSize, WrongCrc, UnknownType, KindLength}

@@ -1,4 +1,5 @@
-// Why a call is refused: the layer that asked, and the question that was answered no.
+//! Why a call is refused: the layer that asked, the question that was answered no, and its number; and times, which every
+//! layer asks for. The numbers are those of `docs/refusals.md`; 8 and 9 are not used.
 #![tactic(auto)]
 
 ghost use Rattle.std.specs.Prelude.{◌≡◌, Some};
@@ -8,115 +9,133 @@ ghost use Rattle.refusal.specs.declared.Refusal.TheVariants.{Sending, Arrival, T
 use std::error::Error;
 use std::fmt;
 
-pub mod times;
+mod times;
 
-// Loading a profile.
+pub use times::{Time, is_time};
+
+/// Why the entries of a profile are refused.
 #[derive(Clone, Copy, Debug, PartialEq, Eq)]
 pub enum ProfileFault {
-    // not 1 to 32 entries
+    /// 1: not 1 to 32 entries
     EntryCount,
-    // not first ≤ last ≤ 15
+    /// 2: not first ≤ last ≤ 15
     UuiRange,
-    // the length is not 1 to 64
+    /// 3: the length is not 1 to 64 octets
     EntryLength,
-    // the width is not 1, 2, 4, 8 or 16, or the first UUI is no multiple of it
+    /// 4: the width is not 1, 2, 4, 8 or 16, or the first UUI is no multiple of it
     Width,
-    // the interval is not 1 to 255, or the packet time is no multiple of it from 1 to 65,535
+    /// 5: the interval is not 1 to 255 ms, or the packet time is no multiple of it from 1 to 65,535 ms
     Times,
-    // the width or the interval is not that of entry 0
+    /// 6: the interval is not that of entry 0
     Unlike,
-    // the range and the length of an earlier entry
+    /// 7: an earlier entry has a UUI in common with it, and its length
     Duplicate,
 }
 
-// Sending audio, an event, or what is due.
+/// Why sending audio, an event or what is due is refused.
 #[derive(Clone, Copy, Debug, PartialEq, Eq)]
 pub enum SendingFault {
+    /// 10: not 0 to 2^40 - 1 ms
     TimeOutOfRange,
-    // the profile has no entry at this place
+    /// 11: the profile has no entry at this place
     NoEntry,
-    // the payload has not the entry's length
+    /// 12: the payload has not the entry's length
     PayloadLength,
-    // the time is no multiple of the interval
+    /// 13: the time is no multiple of the interval
     OffInterval,
-    // before the end of the last accepted packet
+    /// 14: before the end of the last accepted packet
     Overlap,
-    // before this stream's latest event or due call that was not refused
+    /// 15: before this stream's latest event or due call that was not refused
     BehindClock,
-    // not later than every time that a packet of this stream was or may still be made for
+    /// 16: not later than every time that a packet of this stream was or may still be made for
     NotLater,
-    // the buffer does not hold a packet of this kind
+    /// 19: the buffer does not hold a packet of this kind
     BufferTooShort,
 }
 
-// An arrival, before its payload is read.
+/// Why an arrival is refused, before its payload is read.
 #[derive(Clone, Copy, Debug, PartialEq, Eq)]
 pub enum ArrivalFault {
+    /// 10: not 0 to 2^40 - 1 ms
     TimeOutOfRange,
-    // before the last arrival that was not refused
+    /// 20: before the last arrival that was not refused
     RunsBack,
-    // neither 0 to 15 nor 24
+    /// 21: the UUI is neither 0 to 15 nor 24
     UnknownUui,
-    // no entry has this UUI and length
+    /// 22: no entry has this UUI and length
     NoSuchAudio,
 }
 
-// Reading a type 3 payload.
+/// Why a type 3 payload is not read.
 #[derive(Clone, Copy, Debug, PartialEq, Eq)]
 pub enum Type3Fault {
-    // not 5 to 12 octets
+    /// 23: not 5 to 12 octets
     PayloadSize,
+    /// 24: the check is wrong
     WrongCrc,
-    // the message type is none of those that are read
+    /// 25: the message type is none of those that are read
     UnknownType,
-    // the length is not that of the kind
+    /// 26: the length is not that of the kind
     KindLength,
 }
 
-// A kind of message.
+/// Why there is no such message of a kind.
 #[derive(Clone, Copy, Debug, PartialEq, Eq)]
 pub enum KindFault {
-    // the digit type is above 3
+    /// 17: the digit type is above 3
     DigitType,
-    // the code is not of its digit type
+    /// 18: the code is not of its digit type
     DigitCode,
-    // the octets are no message's body: the kind's cause, a number since anyone may add a kind
+    /// 27: the octets are no message's body. It holds the kind's cause, a number since anyone may add a kind.
     Body(u8),
 }
 
-// Placing an arrival in time.
+/// Why an arrival is not placed in time.
 #[derive(Clone, Copy, Debug, PartialEq, Eq)]
 pub enum PlacingFault {
-    // two elapsed times are equally near
+    /// 28: two elapsed times are equally near
     EquallyNear,
-    // the position would pass the range of times
+    /// 29: the position would pass the range of times
     PositionOutOfRange,
 }
 
-// The layers of the product, each with its own questions.
+/// The layers of the product, each with its own questions.
 #[derive(Clone, Copy, Debug, PartialEq, Eq)]
 pub enum Layer {
+    /// loading a profile: 1 to 7
     Profile,
+    /// sending: 10 to 16, and 19
     Sending,
+    /// an arrival: 10, and 20 to 22
     Arrival,
+    /// reading a type 3 payload: 23 to 26
     Type3,
+    /// a kind of message: 17, 18 and 27
     Kind,
+    /// placing an arrival in time: 28 and 29
     Placing,
 }
 
-// A refusal. Of a profile it also has the place of the wrong entry, from 0; so a `ProfileFault` has no `From`.
+/// A refusal: a layer's fault. That of a profile has beside it the place of the wrong entry, from 0, and 0 where the number
+/// of entries is wrong.
 #[derive(Clone, Copy, Debug, PartialEq, Eq)]
 pub enum Refusal {
+    /// a profile's entries, with the place of the entry
     Profile(ProfileFault, usize),
+    /// audio, an event, or what is due
     Sending(SendingFault),
+    /// an arrival at an end
     Arrival(ArrivalFault),
+    /// a type 3 payload
     Type3(Type3Fault),
+    /// a message of a kind, or its body
     Kind(KindFault),
+    /// an arrival on its stream
     Placing(PlacingFault),
 }
 
 impl Refusal {
-    // The number by which a tester and a C program know it.
+    /// The number by which a tester and a C program know it: 1 to 7 and 10 to 29.
     pub fn number(self) -> u8
         ensures { result ≡ number_of self }
     {
@@ -152,7 +171,7 @@ impl Refusal {
         }
     }
 
-    // The layer that asked.
+    /// The layer that asked.
     pub fn layer(self) -> Layer
         ensures { result ≡ layer_of self }
     {
@@ -166,7 +185,7 @@ impl Refusal {
         }
     }
 
-    // The place of the entry that a profile was refused for, and 0 where the number of entries is wrong.
+    /// The place of the entry that a profile was refused for, from 0, and 0 where the number of entries is wrong.
     pub fn place(self) -> Option<usize>
         ensures { result ≡ place_of self }
     {
@@ -176,7 +195,7 @@ impl Refusal {
         }
     }
 
-    // Why a kind does not read a body.
+    /// Why a kind does not read a body (27): the kind's cause.
     pub fn cause(self) -> Option<u8>
         ensures { result ≡ cause_of self }
     {
@@ -197,7 +216,8 @@ impl fmt::Display for Refusal {
 
 impl Error for Refusal {}
 
-// Each layer's fault is a refusal. (By hand, since a derived conversion has no contract.)
+// Each layer's fault is a refusal, but for that of a profile, which has a place beside it. (By hand, since a derived
+// conversion has no contract.)
 impl From<SendingFault> for Refusal {
     ghost from_gives = { λ fault refusal. refusal ≡ Sending fault };
 

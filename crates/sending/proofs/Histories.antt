@@ -5,7 +5,8 @@ use Rattle.type3.specs.Kinds.{Meaning}
 use Rattle.sending.specs.declared.event.Event.{Event}
 use Rattle.sending.specs.Sending.{Stream, new_sender}
 use Rattle.sending.specs.declared.event.Packet.{Packet}
-use Rattle.sending.specs.Runs.{Call, Did, accepted, made, neither, does, step, history, latest_from, since_from, since, had_from, had, SendsLawfully}
+use Rattle.sending.specs.Runs.{Call, Did, accepted, made, neither, does, step, history, latest_from, since_from, since, had_from, had}
+use Rattle.sending.specs.Runs.{SendsLawfully}
 use Rattle.sending.proofs.Turns.{each_call}
 use Rattle.sending.proofs.Kept.{Kept, kept_new, kept_on}
 use Rattle.sending.proofs.Behind.{Behind, stays, accepted_ahead, Making, making}
@@ -24,11 +25,13 @@ module _ {M : Type 0} where
   had_append o x (d ∷ ds) es = let more = λ (p : Option M). had_append p x ds es in grind arith
 
   -- an event after a time changes nothing of what was had at it
-  had_same : (o : Option M) (x : ℕ) (d : Did M) (ds : List (Did M)) → ((e : Event M) → d ≡ accepted e → x < e.time) → had_from o x (d ∷ ds) ≡ had_from o x ds
+  had_same : (o : Option M) (x : ℕ) (d : Did M) (ds : List (Did M)) → ((e : Event M) → d ≡ accepted e → x < e.time)
+      → had_from o x (d ∷ ds) ≡ had_from o x ds
   had_same o x d ds h = grind (arith, nat_tests)
 
   -- the latest event is had at its time and after
-  had_latest : (q : Option (Event M)) (o : Option M) (x : ℕ) (ds : List (Did M)) → ((e : Event M) → q ≡ Some e → e.time ≤ x → o ≡ Some e.message) →
+  had_latest : (q : Option (Event M)) (o : Option M) (x : ℕ) (ds : List (Did M)) →
+      ((e : Event M) → q ≡ Some e → e.time ≤ x → o ≡ Some e.message) →
       (e : Event M) → latest_from q ds ≡ Some e → e.time ≤ x → had_from o x ds ≡ Some e.message
   had_latest q o x [] tie e is low = tie e is low
   had_latest q o x (accepted a ∷ ds) tie e is low =
@@ -40,7 +43,8 @@ module _ {M : Type 0} where
 
   module _ (k : Meaning M) where
     latest_after : (s : Stream M) (c : Call M) → (step k s c).latest ≡ latest_from s.latest (does k s c ∷ [])
-    latest_after s = each_call k s (λ d u. u.latest ≡ latest_from s.latest (d ∷ [])) refl (λ e on ok. refl) (λ t on. refl) (λ t d on due. refl)
+    latest_after s = each_call k s (λ d u. u.latest ≡ latest_from s.latest (d ∷ [])) refl (λ e on ok. refl) (λ t on. refl)
+        (λ t d on due. refl)
 
     -- ---- the stream at which a call did something
 
@@ -74,16 +78,19 @@ module _ {M : Type 0} where
 
     -- ---- calls after a time is behind
 
-    later_events : (s : Stream M) (ts : List ℕ) (x : ℕ) → Kept k s ts → Behind s x → (cs : List (Call M)) (before rest : List (Did M)) (e : Event M) →
+    later_events : (s : Stream M) (ts : List ℕ) (x : ℕ) → Kept k s ts → Behind s x → (cs : List (Call M)) (before rest : List (Did M))
+        (e : Event M) →
         history k s cs ≡ before ++ (accepted e ∷ rest) → x < e.time
     later_events s ts x kept b [] [] rest e h = cc
     later_events s ts x kept b [] (y ∷ before) rest e h = cc
     later_events s ts x kept b (c ∷ cs) [] rest e h = accepted_ahead k s ts kept x b c e (cc)
     later_events s ts x kept b (c ∷ cs) (y ∷ before) rest e h =
         let after : history k (step k s c) cs ≡ before ++ (accepted e ∷ rest) = cc in
-        later_events (step k s c) (since_from ts (does k s c ∷ [])) x (kept_on k s ts kept c) (stays k s ts kept x b c) cs before rest e after
+        later_events (step k s c) (since_from ts (does k s c ∷ [])) x (kept_on k s ts kept c)
+        (stays k s ts kept x b c) cs before rest e after
 
-    had_on : (s : Stream M) (ts : List ℕ) (x : ℕ) → Kept k s ts → Behind s x → (cs : List (Call M)) (o : Option M) → had_from o x (history k s cs) ≡ o
+    had_on : (s : Stream M) (ts : List ℕ) (x : ℕ) → Kept k s ts → Behind s x → (cs : List (Call M)) (o : Option M)
+        → had_from o x (history k s cs) ≡ o
     had_on s ts x kept b [] o = refl
     had_on s ts x kept b (c ∷ cs) o =
         had_same o x (does k s c) (history k (step k s c) cs) (accepted_ahead k s ts kept x b c)
@@ -91,7 +98,8 @@ module _ {M : Type 0} where
 
     -- ---- the laws
 
-    module _ (cs : List (Call M)) (before rest : List (Did M)) (call : ℕ) (d : Packet M) (h : history k new_sender cs ≡ before ++ (made call d ∷ rest)) where
+    module _ (cs : List (Call M)) (before rest : List (Did M)) (call : ℕ) (d : Packet M)
+        (h : history k new_sender cs ≡ before ++ (made call d ∷ rest)) where
       at : Reached new_sender [] before rest (made call d)
       at = reach new_sender [] (kept_new k) cs before rest (made call d) h
 
@@ -116,7 +124,8 @@ module _ {M : Type 0} where
     sends_lawfully cs = record {
       events_are_later = λ b1 b2 rest call d e h.
           let b3 = b2 ++ (accepted e ∷ rest) in
-          later_events _ _ d.time (kept_then cs b1 b3 call d h) (making_at cs b1 b3 call d h).behind _ b2 rest e (sym (at cs b1 b3 call d h).then);
+          later_events _ _ d.time (kept_then cs b1 b3 call d h) (making_at cs b1 b3 call d h).behind _ b2 rest e
+          (sym (at cs b1 b3 call d h).then);
       packets_are_of_the_latest_event = λ before rest call d h.
           let m = making_at cs before rest call d h in
           (m.from, sym (at cs before rest call d h).event ∙ m.is, m.of);

@@ -24,7 +24,8 @@ module _ {M : Type 0} (k : Meaning M) (law : Lawful k) (e : Event M) where
         let r = turn k law e i s a in
         let u = (sent k s t (as_due k law e i r.packet)).1 in
         let ok = not_refused s t (omega arith) (at_clock k law e i s a) in
-        let did : does k s (due t room) ≡ goes k e i (plan k e.message i) = let due = r.is_due in let planned = r.is_planned in grind arith in
+        let did : does k s (due t room) ≡ goes k e i (plan k e.message i) =
+        let due = r.is_due in let planned = r.is_planned in grind arith in
         let after : step k s (due t room) ≡ u = let due = r.is_due in cc in
         let next : e.time + i + 1 ≡ e.time + (i + 1) = omega arith in
         let rest = run n (i + 1) u r.after (omega arith) in

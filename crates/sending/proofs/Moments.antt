@@ -1,6 +1,7 @@
 -- The stream at a millisecond after an event, where due was called at each before it, and what a call then does. Assumes
 -- nothing.
-use Rattle.std.proofs.Common.{◌≡◌, ℕ, zero, suc, ◌+◌, ◌-◌, ◌*◌, ◌%◌, ◌<◌, ◌≤◌, cond, eqb, ◌⊎◌, Some, None, Option, sym, refl, ap, ◌∙◌, subst, inl, inr, suc-mul, zero-mul, arith}
+use Rattle.std.proofs.Common.{◌≡◌, ℕ, zero, suc, ◌+◌, ◌-◌, ◌*◌, ◌%◌, ◌<◌, ◌≤◌, cond, eqb, ◌⊎◌, Some, None, Option, sym, refl, ap, ◌∙◌}
+use Rattle.std.proofs.Common.{subst, inl, inr, suc-mul, zero-mul, arith}
 use Rattle.std.proofs.lemmas.Bool.Decides.{nat_tests}
 use Rattle.std.proofs.lemmas.Bool.{cases_lt}
 use Rattle.std.specs.Option.{option_map}
@@ -66,7 +67,8 @@ module _ {M : Type 0} (k : Meaning M) (law : Lawful k) (e : Event M) where
     pub after : At (i + 1) (sent k s (e.time + i) (as_due i packet)).1
 
   module _ (i : ℕ) (s : Stream M) (a : Copying i s) where
-    first_refresh : (r : Option ℕ) → i ≡ 10 → r ≡ next_refresh k (e.time + i) e.message → (o : Option ℕ) → k.gap e.message ≡ o → Next o (i + 1) r
+    first_refresh : (r : Option ℕ) → i ≡ 10 → r ≡ next_refresh k (e.time + i) e.message → (o : Option ℕ) → k.gap e.message ≡ o
+        → Next o (i + 1) r
     first_refresh r now next None is = grind arith
     first_refresh r now next (Some g) is = let some = law.gaps e.message g is in (1, grind arith, omega arith, omega arith)
 
@@ -135,7 +137,8 @@ module _ {M : Type 0} (k : Meaning M) (law : Lawful k) (e : Event M) where
                 latest = a.latest;
                 copies = refl;
                 late = omega arith;
-                next = subst (λ o. Next o (i + 1) (option_map (λ gap. e.time + i + gap) o)) (sym is) (suc q, grind arith, omega arith, omega arith);
+                next = subst (λ o. Next o (i + 1) (option_map (λ gap. e.time + i + gap) o)) (sym is)
+                    (suc q, grind arith, omega arith, omega arith);
               });
             }
 

@@ -6,7 +6,8 @@ use Rattle.refusal.specs.Questions.{first_no, unless}
 use Rattle.refusal.specs.declared.Refusal.{Refusal}
 use Rattle.type3.specs.Kinds.{Meaning}
 use Rattle.sending.specs.declared.event.Event.{Event}
-use Rattle.sending.specs.Sending.{Stream, later_than_made, event_questions, after_event, due_of, after_nothing, after_packet, sent, due_questions}
+use Rattle.sending.specs.Sending.{Stream, later_than_made, event_questions, after_event, due_of, after_nothing, after_packet, sent}
+use Rattle.sending.specs.Sending.{due_questions}
 use Rattle.sending.specs.declared.event.Packet.{Packet}
 use Rattle.sending.specs.Runs.{Call, event, due, Did, accepted, made, neither, did_event, did_due, does, step}
 
@@ -31,13 +32,16 @@ module _ {M : Type 0} where
         e : Event M
         e = record { time = t; message = m }
 
-        by : (o : Option Refusal) → first_no (event_questions s t) ≡ o → P (did_event e (unless o s (taken s e)).0) (unless o s (taken s e)).1
-        by None is = event_taken e (record { in_time = grind (arith, nat_tests); not_behind = grind (arith, nat_tests) }) (grind (arith, nat_tests))
+        by : (o : Option Refusal) → first_no (event_questions s t) ≡ o
+            → P (did_event e (unless o s (taken s e)).0) (unless o s (taken s e)).1
+        by None is = event_taken e (record { in_time = grind (arith, nat_tests); not_behind = grind (arith, nat_tests) })
+            (grind (arith, nat_tests))
         by (Some f) is = refused
     each_call (due t room) = by (first_no (due_questions k s t room)) refl (due_of s t) refl
       where
         by : (o : Option Refusal) → first_no (due_questions k s t room) ≡ o → (d : Option (Packet M)) → due_of s t ≡ d →
             P (did_due t d (unless o s (sent k s t d)).0) (unless o s (sent k s t d)).1
         by None is None not_due = nothing_due t (record { in_time = grind (arith, nat_tests); not_behind = grind (arith, nat_tests) })
-        by None is (Some d) is_due = packet_made t d (record { in_time = grind (arith, nat_tests); not_behind = grind (arith, nat_tests) }) is_due
+        by None is (Some d) is_due =
+            packet_made t d (record { in_time = grind (arith, nat_tests); not_behind = grind (arith, nat_tests) }) is_due
         by (Some f) is d now = refused

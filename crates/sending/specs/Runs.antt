@@ -1,6 +1,7 @@
 -- Lists of calls on a new message stream, and what is true of what they send, in terms of events, packets and times.
 -- Assumes nothing.
-use Rattle.std.specs.Prelude.{◌≡◌, ℕ, zero, suc, ◌+◌, ◌-◌, ◌*◌, ◌%◌, ◌<◌, ◌≤◌, min, true, cond, ◌&&◌, List, [], ◌∷◌, ◌++◌, length, Some, None, Ok, Err, Option, Result, ◌==◌, nat_le, nat_lt}
+use Rattle.std.specs.Prelude.{◌≡◌, ℕ, zero, suc, ◌+◌, ◌-◌, ◌*◌, ◌%◌, ◌<◌, ◌≤◌, min, true, cond, ◌&&◌, List, [], ◌∷◌, ◌++◌, length, Some}
+use Rattle.std.specs.Prelude.{None, Ok, Err, Option, Result, ◌==◌, nat_le, nat_lt}
 use Rattle.refusal.specs.Questions.{is_time}
 use Rattle.refusal.specs.declared.Refusal.{Refusal}
 use Rattle.type3.specs.Kinds.{Meaning}

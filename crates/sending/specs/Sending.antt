@@ -1,11 +1,13 @@
 -- Sending messages: what the calls on a message stream answer, and the stream after them. Assumes nothing.
-use Rattle.std.specs.Prelude.{ℕ, ◌+◌, ◌*◌, ◌%◌, min, Bool, true, cond, ◌&&◌, List, [], ◌∷◌, Some, None, Ok, Option, Result, ◌==◌, nat_le, nat_lt}
+use Rattle.std.specs.Prelude.{ℕ, ◌+◌, ◌*◌, ◌%◌, min, Bool, true, cond, ◌&&◌, List, [], ◌∷◌, Some, None, Ok, Option, Result, ◌==◌, nat_le}
+use Rattle.std.specs.Prelude.{nat_lt}
 use Rattle.std.specs.Option.{option_map}
 use Rattle.refusal.specs.Questions.{first_no, unless, is_time}
 use Rattle.refusal.specs.declared.Refusal.{Refusal}
 use Rattle.refusal.specs.declared.Refusal.TheVariants.{Sending}
 use Rattle.refusal.specs.declared.SendingFault.TheVariants.{TimeOutOfRange, BehindClock, NotLater, BufferTooShort}
 use Rattle.type3.specs.Kinds.{Meaning}
+use Rattle.type3.specs.Stamps.{stamp_modulus}
 use Rattle.type3.specs.Octets.{written}
 use Rattle.type3.specs.declared.payload.Payload.{Payload}
 use Rattle.sending.specs.declared.event.Event.{Event}
@@ -77,9 +79,9 @@ module _ {M : Type 0} where
   abbrev pub due_of : Stream M → ℕ → Option (Packet M)
   due_of s t = due_by s t s.latest
 
-  -- what a packet says: its stamp is the time that it is made for, modulo 16,384
+  -- what a packet says: its stamp is that of the time that it is made for
   abbrev pub said_by : Packet M → Payload M
-  said_by d = record { redundancy = d.redundancy; stamp = d.time % 16384; message = d.message }
+  said_by d = record { redundancy = d.redundancy; stamp = d.time % stamp_modulus; message = d.message }
 
   abbrev pub after_nothing : Stream M → ℕ → Stream M
   after_nothing s t = record { clock = t; latest = s.latest; copies = s.copies; refresh = s.refresh; refreshed = s.refreshed }

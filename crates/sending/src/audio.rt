@@ -1,15 +1,13 @@
-// The sending half of the audio stream.
-ghost use Rattle.std.specs.Prelude.{◌≡◌, ◌≤◌, length};
+//! The sending half of the audio stream.
+ghost use Rattle.std.specs.Prelude.{◌≡◌, ◌≤◌, length, IfErr};
 ghost use Rattle.refusal.specs.Questions.{first_no, allowed};
 ghost use Rattle.sending.specs.Audio.{audio, audio_questions};
 
-use profile::entry::Entry;
-use profile::profile::Profile;
-use refusal::times::Time;
-use refusal::{Refusal, SendingFault};
+use profile::{Entry, Profile};
+use refusal::{Refusal, SendingFault, Time};
 use std::marker::Model;
 
-// In contracts it is the end of the last accepted packet.
+/// The sending half of the audio stream. In contracts it is the end of the last accepted packet, in milliseconds.
 #[derive(Clone, Copy, Debug, PartialEq, Eq)]
 pub struct AudioSender {
     // no packet may start before it
@@ -27,13 +25,17 @@ impl Model for AudioSender {
 }
 
 impl AudioSender {
+    /// A new stream: audio may start at 0.
     pub fn new() -> AudioSender
         ensures { result ≡ 0 }
     {
         AudioSender { free: 0 }
     }
 
-    // Audio from a time on, under the entry at a place: the label of its packet. Nothing is written.
+    /// Audio from a time on, in milliseconds, under the entry at a place, from 0: the UUI of its packet. Nothing is written.
+    ///
+    /// Refused, and then unchanged, in this order: 10, no time; 11, no entry at the place; 12, the payload has not the entry's
+    /// length; 13, the time is no multiple of the interval; 14, it is before the end of the last accepted packet.
     pub fn audio(
         &mut self,
         profile: &Profile,
@@ -43,6 +45,7 @@ impl AudioSender {
     ) -> Result<u16, Refusal>
         ensures value { result ≡ (audio profile.now self.old time place (length payload.now)).0 }
         ensures after { self.new ≡ (audio profile.now self.old time place (length payload.now)).1 }
+        ensures unchanged { IfErr result (λ _. self.new ≡ self.old) }
     {
         let time = Time::new(time).ok_or(SendingFault::TimeOutOfRange)?.get();
         let (entry, uui) = profile

@@ -1,22 +1,27 @@
-// An event that was accepted, and a packet that is due of one.
+//! An event that was accepted, and a packet that is due of one.
 ghost use Rattle.std.specs.Prelude.{◌≡◌};
 ghost use Rattle.sending.specs.Sending.{said_by};
 
-use refusal::times::Time;
-use type3::bounded::{Redundancy, Stamp};
-use type3::payload::Payload;
+use refusal::Time;
+use type3::{Payload, Redundancy, Stamp};
 
+/// An event: a message that is in force from a time on.
 #[derive(Clone, Copy, Debug, PartialEq, Eq)]
 pub struct Event<T> {
+    /// when it was reported for
     pub time: Time,
+    /// what it says
     pub message: T,
 }
 
-// A packet is made for a time: a copy for its event's, a refresh for that of the call which sends it.
+/// A packet is made for a time: a copy for its event's, a refresh for that of the call which sends it.
 #[derive(Clone, Copy, Debug, PartialEq, Eq)]
 pub struct Packet<T> {
+    /// which copy it is, or that it is a refresh
     pub redundancy: Redundancy,
+    /// the time that it is made for, of which its stamp is made
     pub time: Time,
+    /// the message of its event
     pub message: T,
 }
 

@@ -1,6 +1,11 @@
-// Sending: the events of a message stream with their copies and refreshes, each at its moment, and labelled audio.
+//! Sending, as ITU-T I.366.2 has it: the events of a message stream, each with three copies 5 ms apart and then refreshes, each
+//! packet at its moment; and labelled audio. Times are milliseconds from 0.
 #![tactic(auto)]
 
-pub mod audio;
-pub mod event;
-pub mod sender;
+mod audio;
+mod event;
+mod sender;
+
+pub use audio::AudioSender;
+pub use event::{Event, Packet};
+pub use sender::Sender;

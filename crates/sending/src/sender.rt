@@ -1,18 +1,15 @@
-// The sending half of a message stream.
-ghost use Rattle.std.specs.Prelude.{◌≡◌, true, length};
+//! The sending half of a message stream.
+ghost use Rattle.std.specs.Prelude.{◌≡◌, true, length, IfErr};
 ghost use Rattle.refusal.specs.Questions.{first_no, allowed};
-ghost use Rattle.sending.specs.Sending.{new_sender, event_in_range, event_questions, event, due_of, due_questions, next_refresh, after_packet, due};
+ghost use Rattle.sending.specs.Sending.{new_sender, event_in_range, event_questions, event, due_of, due_questions, next_refresh};
+ghost use Rattle.sending.specs.Sending.{after_packet, due};
 ghost use Rattle.sending.specs.Runs.{SendsLawfully, KeepsItsMoments};
 ghost use Rattle.sending.specs.Answered.{counted, put};
 
 use crate::event::{Event, Packet};
-use refusal::times::Time;
-use refusal::{Refusal, SendingFault};
+use refusal::{Refusal, SendingFault, Time};
 use std::marker::Model;
-use type3::bounded::Redundancy;
-use type3::kind::Kind;
-use type3::payload::payload_len;
-use type3::writing::write_payload;
+use type3::{Kind, Redundancy, payload_len, write_payload};
 
 // An event has so many copies.
 const COPIES: u8 = 3;
@@ -20,6 +17,7 @@ const COPIES: u8 = 3;
 // They are so many milliseconds apart.
 const COPY_SPACING: u64 = 5;
 
+/// The sending half of a message stream of a kind. In contracts it is the record `Stream`.
 #[derive(Drop)]
 pub struct Sender<K: Kind> {
     // the time of the latest call that was not refused
@@ -46,6 +44,7 @@ impl<K: Kind> Model for Sender<K> {
 }
 
 impl<K: Kind> Sender<K> {
+    /// A new stream, with no event.
     pub fn new() -> Sender<K>
         ensures { result ≡ new_sender }
     {
@@ -58,16 +57,20 @@ impl<K: Kind> Sender<K> {
         }
     }
 
-    // An event at a time: it ends what was due of an earlier one, and its message is in force. Whatever is called on a new
-    // stream, what it sends is lawful.
+    /// An event at a time, in milliseconds: it ends what was due of an earlier one, and its message is in force. Whatever is
+    /// called on a new stream, what it sends is lawful.
+    ///
+    /// Refused, and then unchanged, in this order: 10, no time; 15, before the latest event or due call that was not refused;
+    /// 16, not later than the latest event, or than the last refresh.
     #[tactic(auto, using(crate::proofs::Histories::sends_lawfully))]
     pub fn event(&mut self, time: u64, message: K::Message) -> Result<(), Refusal>
         ensures value { result ≡ (event self.old time message).0 }
         ensures after { self.new ≡ (event self.old time message).1 }
+        ensures unchanged { IfErr result (λ _. self.new ≡ self.old) }
         ensures in_range { event_in_range self.new.latest ≡ true }
         ensures lawful { SendsLawfully K.Kind.model }
     {
-        // what the type keeps is known on every way out
+        // (For the proof alone: once a field was read, the type's invariant is known on every way out, and `in_range` tells it.)
         let _ = &self.latest;
         let time = Time::new(time).ok_or(SendingFault::TimeOutOfRange)?;
         self.check_event(time)?;
@@ -97,17 +100,21 @@ impl<K: Kind> Sender<K> {
         Ok(())
     }
 
-    // What is due at a time: the first unsent packet whose moment has come is written to the start of `out`, and its length
-    // is answered. Called at every millisecond after an event, it sends each packet at its moment.
+    /// What is due at a time, in milliseconds: the first unsent packet whose moment has come is written to the start of `out`,
+    /// and its length in octets is answered. Called at every millisecond after an event, it sends each packet at its moment.
+    ///
+    /// Refused, and then stream and buffer are unchanged, in this order, whether or not anything is due: 10, no time; 15,
+    /// before the latest event or due call that was not refused; 19, the buffer does not hold a packet of this kind.
     #[tactic(auto, using(crate::proofs::Milliseconds::keeps_its_moments))]
     pub fn due(&mut self, time: u64, out: &mut [u8]) -> Result<Option<usize>, Refusal>
         ensures value { result ≡ counted (due K.Kind.model self.old time (length out.old)).0 }
         ensures after { self.new ≡ (due K.Kind.model self.old time (length out.old)).1 }
         ensures octets { out.new ≡ put out.old (due K.Kind.model self.old time (length out.old)).0 }
+        ensures unchanged { IfErr result (λ _. (self.new ≡ self.old) × (out.new ≡ out.old)) }
         ensures in_range { event_in_range self.new.latest ≡ true }
         ensures moments { KeepsItsMoments K.Kind.model }
     {
-        // what the type keeps is known on every way out
+        // (For the proof alone: once a field was read, the type's invariant is known on every way out, and `in_range` tells it.)
         let _ = &self.latest;
         let time = Time::new(time).ok_or(SendingFault::TimeOutOfRange)?;
         self.check_due(time, out.len())?;

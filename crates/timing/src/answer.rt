@@ -4,7 +4,7 @@ use examples::hex::Hex;
 use examples::refused::Refused;
 use refusal::Refusal;
 use std::fmt;
-use type3::written::Written;
+use type3::Written;
 
 // A refusal is an answer here, and no error of the program.
 #[derive(Drop)]

@@ -6,10 +6,8 @@ ghost use Rattle.sending.specs.Audio.{audio};
 ghost use Rattle.timing.specs.Answers.{to_audio};
 
 use crate::answer::Answer;
-use profile::examples::Example;
-use profile::load::LoadError;
-use profile::profile::Profile;
-use sending::audio::AudioSender;
+use profile::{Example, LoadError, Profile};
+use sending::AudioSender;
 use std::alloc::Global;
 
 #[derive(Drop)]

@@ -1,10 +1,8 @@
 // A call, by its words. The first says what is asked.
 use crate::room::Room;
 use examples::bits::bits_of;
-use kinds::cas::CasBits;
-use kinds::digit::{Digit, TONE_OFF};
-use kinds::system::System;
-use profile::examples::Example;
+use kinds::{CasBits, Digit, System, TONE_OFF};
+use profile::Example;
 use refusal::Refusal;
 
 // In dBm0.

@@ -6,9 +6,8 @@ ghost use Rattle.timing.specs.Answers.{to_event, count};
 use crate::answer::Answer;
 use crate::room::{MOST_ROOM, Room};
 use refusal::Refusal;
-use sending::sender::Sender;
-use type3::kind::Kind;
-use type3::written::Written;
+use sending::Sender;
+use type3::{Kind, Written};
 
 // What stands in a buffer before a packet is written to it.
 const UNWRITTEN: u8 = 0xee;

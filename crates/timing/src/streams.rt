@@ -6,11 +6,9 @@ use crate::answer::Answer;
 use crate::audio::Audio;
 use crate::call::Call;
 use crate::messages::{answer_due, answer_event};
-use kinds::cas::Cas;
-use kinds::digits::Digits;
-use profile::examples::Example;
-use profile::load::LoadError;
-use sending::sender::Sender;
+use kinds::{Cas, Digits};
+use profile::{Example, LoadError};
+use sending::Sender;
 use std::alloc::Global;
 
 #[derive(Drop)]

@@ -2,8 +2,7 @@
 ghost use Rattle.std.specs.Prelude.{◌≡◌};
 ghost use Rattle.trunk.specs.Streams.{on_stream};
 
-use placing::receiver::MessageNews;
-use placing::stream::{Moved, Told};
+use placing::{MessageNews, Moved, Told};
 
 // An end has two kinds of message.
 #[derive(Clone, Copy, Debug, PartialEq, Eq)]

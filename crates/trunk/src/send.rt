@@ -6,9 +6,7 @@ ghost use Rattle.trunk.specs.End.{audio, event, due};
 use crate::answer::Which;
 use crate::service::InService;
 use refusal::Refusal;
-use type3::kind::Kind;
-use type3::payload::{Either, LONGEST};
-use type3::written::Written;
+use type3::{Either, Kind, LONGEST, Written};
 
 impl<P: Kind, Q: Kind> InService<P, Q> {
     // Audio from a time on, under the entry at a place: the label of its packet. Nothing is written.

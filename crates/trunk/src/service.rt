@@ -4,14 +4,11 @@ ghost use Rattle.trunk.specs.End.{in_force};
 
 use crate::answer::Which;
 use crate::set_up::SetUp;
-use placing::receiver::Receiver;
-use placing::stream::Stream;
-use profile::profile::Profile;
-use sending::audio::AudioSender;
-use sending::sender::Sender;
+use placing::{Receiver, Stream};
+use profile::Profile;
+use sending::{AudioSender, Sender};
 use std::marker::Model;
-use type3::kind::Kind;
-use type3::payload::Either;
+use type3::{Either, Kind};
 
 #[derive(Drop)]
 pub struct InService<P: Kind, Q: Kind> {

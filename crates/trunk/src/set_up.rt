@@ -8,17 +8,12 @@ ghost use Rattle.trunk.specs.End.{started};
 ghost use Rattle.trunk.specs.SettingUp.{loaded, Loads};
 
 use crate::service::InService;
-use placing::receiver::Receiver;
-use placing::stream::Stream;
-use profile::entry::Entry;
-use profile::examples::Example;
-use profile::load::LoadError;
-use profile::profile::Profile;
-use sending::audio::AudioSender;
-use sending::sender::Sender;
+use placing::{Receiver, Stream};
+use profile::{Entry, Example, LoadError, Profile};
+use sending::{AudioSender, Sender};
 use std::alloc::Global;
 use std::marker::Model;
-use type3::kind::Kind;
+use type3::Kind;
 
 // It holds the profile with which it will start. In contracts it is that profile.
 #[derive(Drop)]

@@ -1,5 +1,6 @@
 -- What is written to the start of a buffer, part by part. Assumes nothing.
-use Rattle.std.proofs.Common.{◌≡◌, ℕ, ◌+◌, ◌-◌, ◌<◌, ◌≤◌, List, [], ◌∷◌, ◌++◌, length, get_or, drop, set, refl, ap, ◌∙◌, append_assoc, arith}
+use Rattle.std.proofs.Common.{◌≡◌, ℕ, ◌+◌, ◌-◌, ◌<◌, ◌≤◌, List, [], ◌∷◌, ◌++◌, length, get_or, drop, set, sym, refl, ap, ◌∙◌, append_assoc}
+use Rattle.std.proofs.Common.{arith}
 use borrow.Rule.Slice.PartMut.{put_mid}
 use Rattle.std.proofs.lemmas.List.{drop_more, set_at, take_at, drop_at, drop-drop, length-append}
 
@@ -18,6 +19,15 @@ over_part : (p xs b : List ℕ) (n k : ℕ) → length p ≡ n → length b ≡ 
 over_part p xs b n k e f =
     let q : length (p ++ b) ≡ n + k = simp length-append (omega arith) in
     rw (q, e, take_at p (drop n xs) n e, drop_at p (drop n xs) n e, drop-drop, append_assoc)
+
+-- two octets at n replaced
+pub last_two : (p rest : List ℕ) (n y v z w : ℕ) → length p ≡ n
+    → set (set ((p ++ y ∷ v ∷ []) ++ rest) n z) (n + 1) w ≡ (p ++ z ∷ w ∷ []) ++ rest
+last_two p rest n y v z w e =
+    let q : length (p ++ z ∷ []) ≡ n + 1 = simp length-append (omega arith) in
+    ap (λ s. set (set s n z) (n + 1) w) (append_assoc p (y ∷ v ∷ []) rest)
+    ∙ ap (λ s. set s (n + 1) w) (set_at p y (v ∷ rest) z n e ∙ sym (append_assoc p (z ∷ []) (v ∷ rest)))
+    ∙ set_at (p ++ z ∷ []) v rest w (n + 1) q ∙ append_assoc p (z ∷ []) (w ∷ rest) ∙ sym (append_assoc p (z ∷ w ∷ []) rest)
 
 -- two octets, a part of n, and two octets
 pub framed_over : (xs b : List ℕ) (n x y z w : ℕ) → length b ≡ n → n + 4 ≤ length xs →

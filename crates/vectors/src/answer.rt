@@ -2,12 +2,10 @@
 use examples::hex::Hex;
 use examples::refused::Refused;
 use examples::wide::Mark;
-use kinds::cas::CasBits;
-use kinds::digit::Digit;
+use kinds::{CasBits, Digit};
 use refusal::Refusal;
 use std::fmt;
-use type3::payload::{LONGEST, Payload};
-use type3::written::Written;
+use type3::{LONGEST, Payload, Written};
 
 // A refusal is an answer here, and no error of the program.
 #[derive(Drop)]

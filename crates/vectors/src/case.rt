@@ -3,7 +3,7 @@ use crate::answer::Answer;
 use crate::reading::{read, read_wide};
 use crate::writing::Asked;
 use examples::hex::{Letters, octets_of};
-use kinds::export::gublaisma_read_type3;
+use kinds::gublaisma_read_type3;
 use std::alloc::{AllocError, Global};
 
 // A line that is no case, or has a number out of its range, is a bad one.

@@ -1,10 +1,8 @@
 // What octets say.
 use crate::answer::Answer;
 use examples::wide::Wide;
-use kinds::cas::Cas;
-use kinds::digits::Digits;
-use type3::payload::Either;
-use type3::reading::{read_either, read_payload};
+use kinds::{Cas, Digits};
+use type3::{Either, read_either, read_payload};
 
 // Read as a digit or as signalling bits.
 pub fn read(octets: &[u8]) -> Answer {

@@ -2,15 +2,9 @@
 use crate::answer::Answer;
 use examples::bits::bits_of;
 use examples::wide::{Mark, Wide};
-use kinds::cas::{Cas, CasBits};
-use kinds::digit::Digit;
-use kinds::digits::Digits;
+use kinds::{Cas, CasBits, Digit, Digits};
 use refusal::Refusal;
-use type3::bounded::{Redundancy, Stamp};
-use type3::kind::Kind;
-use type3::payload::{LONGEST, Payload};
-use type3::writing::write_payload;
-use type3::written::Written;
+use type3::{Kind, LONGEST, Payload, Redundancy, Stamp, Written, write_payload};
 
 // The two numbers at the head of a payload, and its message.
 #[derive(Clone, Copy)]
