@@ -5,9 +5,7 @@ use examples::hex::Hex;
 use kinds::{Cas, CasBits, Digit, Digits};
 use placing::Told;
 use profile::Example;
-use trunk::answer::{Arrived, Which};
-use trunk::service::InService;
-use trunk::set_up::SetUp;
+use trunk::{Arrived, InService, SetUp, Which};
 use type3::{Either, LONGEST, TYPE_3_UUI};
 
 #[cfg(test)]

@@ -1,9 +1,9 @@
 // Two ends and a list of calls run, where there is memory; in the second list packets keep their order.
 use kinds::Digit;
-use samples::sample::{sample, sample_in_order};
-use network::side::Side;
+use samples::{sample, sample_in_order};
+use network::Side;
 use std::test::Fail;
-use trunk::answer::Which;
+use trunk::Which;
 use type3::Either;
 
 #[test]

@@ -7,15 +7,13 @@ use dialling::heard::tones_heard;
 use dialling::tone::Tone;
 use examples::hex::Hex;
 use kinds::{Cas, Digits};
-use network::side::Side;
-use network::simulate::{Run, simulate};
+use network::{Run, Side, simulate};
 use profile::LoadError;
 use script::{Asked, Script};
 use show::{show_tones, show_turns};
 use std::alloc::Global;
 use std::env;
-use trunk::answer::Which;
-use trunk::set_up::SetUp;
+use trunk::{SetUp, Which};
 use words::{Carried, Said};
 
 mod carriage;

@@ -1,10 +1,9 @@
 // What the caller does, and the calls on the near end that come of it. Times are in milliseconds of its clock.
 use dialling::tone::{Tone, held, pause_before};
 use kinds::{CasBits, Digit, System, TONE_OFF};
-use network::call::{Call, Turn};
-use network::side::Side;
+use network::{Call, Side, Turn};
 use std::alloc::{AllocError, Global};
-use trunk::answer::Which;
+use trunk::Which;
 use type3::{Either, LONGEST};
 
 pub type Message = Either<Digit, CasBits>;

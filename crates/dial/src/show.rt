@@ -4,11 +4,10 @@ use crate::words::{Carried, Heard, Packet, Said};
 use dialling::heard::Reply;
 use dialling::tone::Tone;
 use kinds::{CasBits, Digit};
-use network::call::{Answer, Call};
-use network::side::Side;
+use network::{Answer, Call, Side};
 use placing::{Class, Told};
 use std::fmt;
-use trunk::answer::Arrived;
+use trunk::Arrived;
 use type3::{Either, TYPE_3_UUI};
 
 // What came of a packet: sent and not lost, lost, or how it was answered where it arrived.

@@ -5,7 +5,7 @@ use kinds::{Cas, CasBits, Digit, Digits, key_of};
 use placing::{MessageNews, Told};
 use refusal::Refusal;
 use std::fmt;
-use trunk::answer::Arrived;
+use trunk::Arrived;
 use type3::{Either, Redundancy, TYPE_3_UUI, read_either};
 
 // A message.

@@ -4,10 +4,10 @@ ghost use Rattle.dialling.specs.Heard.{ends, after, is_new, new_digit, hears, to
 
 use crate::tone::Tone;
 use kinds::{CasBits, Digit, TONE_OFF};
-use network::call::Answer;
+use network::Answer;
 use placing::{Class, Told};
 use std::alloc::{AllocError, Global};
-use trunk::answer::Arrived;
+use trunk::Arrived;
 
 // The answer to a call.
 pub type Reply = Answer<Digit, CasBits>;

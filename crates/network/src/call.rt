@@ -1,7 +1,7 @@
 // The calls of a list, and what they are answered.
 use crate::side::Side;
 use refusal::Refusal;
-use trunk::answer::{Arrived, Which};
+use trunk::{Arrived, Which};
 use type3::{LONGEST, Written};
 
 // A call on an end, with octets `O` and a message `M`. (They are type arguments, since an enum may not hold both a reference and

@@ -1,7 +1,12 @@
 // Two ends of a trunk and a network between them: what is true of every list of calls on them.
 #![tactic(auto)]
 
-pub mod call;
-pub mod ends;
-pub mod side;
-pub mod simulate;
+mod call;
+mod ends;
+mod runs;
+mod side;
+
+pub use call::{Answer, Call, Turn};
+pub use ends::Ends;
+pub use runs::{NoMemory, Run, simulate};
+pub use side::Side;

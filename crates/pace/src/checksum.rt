@@ -6,7 +6,7 @@ ghost use Rattle.kinds.specs.Cas.{octet};
 use kinds::{CasBits, Digit};
 use placing::{Class, MessageNews, Moved, Told};
 use refusal::Refusal;
-use trunk::answer::{Arrived, AudioNews};
+use trunk::{Arrived, AudioNews};
 use type3::Either;
 
 // The sum so far, and a further number.

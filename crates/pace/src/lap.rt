@@ -3,8 +3,7 @@ use crate::checksum::{add, of_answer, of_force};
 use crate::list::List;
 use kinds::{Cas, Digits};
 use std::alloc::Global;
-use trunk::answer::Which;
-use trunk::set_up::SetUp;
+use trunk::{SetUp, Which};
 
 // The checksum of the answers, and of what is in force at the end.
 pub fn lap(heap: Global, list: &List) -> anyhow::Result<u64> {

@@ -5,7 +5,7 @@ use kinds::{CasBits, Digit};
 use placing::{MessageNews, Moved, Told};
 use refusal::Refusal;
 use std::fmt;
-use trunk::answer::Arrived;
+use trunk::Arrived;
 use type3::{Either, LONGEST, Written};
 
 // A refusal is an answer here, and no error of the program.

@@ -4,7 +4,7 @@ use examples::hex::{Letters, octets_of};
 use kinds::CasBits;
 use profile::Entry;
 use std::alloc::{AllocError, Global};
-use trunk::answer::Which;
+use trunk::Which;
 
 #[derive(Drop)]
 pub enum Call {

@@ -6,7 +6,7 @@ use crate::answer::Answer;
 use crate::call::ServiceCall;
 use crate::service::{Service, serve};
 use kinds::{Cas, Digits};
-use trunk::set_up::SetUp;
+use trunk::SetUp;
 
 #[derive(Drop)]
 pub enum End {

@@ -9,7 +9,7 @@ use crate::end::End;
 use profile::{Entry, LoadError};
 use std::alloc::{AllocError, Global};
 use std::marker::Model;
-use trunk::set_up::SetUp;
+use trunk::SetUp;
 
 #[derive(Drop)]
 pub struct Rack {

@@ -6,7 +6,7 @@ use crate::answer::Answer;
 use crate::call::{Message, ServiceCall};
 use kinds::{Cas, CasBits, Digit, Digits};
 use refusal::Refusal;
-use trunk::service::InService;
+use trunk::InService;
 use type3::Either;
 
 // The rack's end has digits and signalling bits as its kinds.

@@ -1,8 +1,12 @@
 // One end of a trunk: audio and messages of two kinds, sent and received.
 #![tactic(auto)]
 
-pub mod answer;
-pub mod arrive;
-pub mod send;
-pub mod service;
-pub mod set_up;
+mod answer;
+mod arrive;
+mod send;
+mod service;
+mod set_up;
+
+pub use answer::{Arrived, AudioNews, Stream, Which};
+pub use service::InService;
+pub use set_up::SetUp;

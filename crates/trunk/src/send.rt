@@ -1,5 +1,5 @@
 // The calls of an end that send.
-ghost use Rattle.std.specs.Prelude.{◌≡◌, length};
+ghost use Rattle.std.specs.Prelude.{◌≡◌, IfErr, length};
 ghost use Rattle.sending.specs.Answered.{counted, put};
 ghost use Rattle.trunk.specs.End.{audio, event, due};
 
@@ -13,6 +13,7 @@ impl<P: Kind, Q: Kind> InService<P, Q> {
     pub fn audio(&mut self, time: u64, place: usize, payload: &[u8]) -> Result<u16, Refusal>
         ensures value { result ≡ (audio self.old time place (length payload.now)).0 }
         ensures after { self.new ≡ (audio self.old time place (length payload.now)).1 }
+        ensures unchanged { IfErr result (λ _. self.new ≡ self.old) }
     {
         self.audio_out.audio(&self.profile, time, place, payload)
     }
@@ -25,6 +26,7 @@ impl<P: Kind, Q: Kind> InService<P, Q> {
     ) -> Result<(), Refusal>
         ensures value { result ≡ (event self.old time message).0 }
         ensures after { self.new ≡ (event self.old time message).1 }
+        ensures unchanged { IfErr result (λ _. self.new ≡ self.old) }
     {
         match message {
             Either::First(message) => self.first_out.event(time, message),
@@ -37,6 +39,7 @@ impl<P: Kind, Q: Kind> InService<P, Q> {
         ensures value { result ≡ counted (due P.Kind.model Q.Kind.model self.old which time (length out.old)).0 }
         ensures after { self.new ≡ (due P.Kind.model Q.Kind.model self.old which time (length out.old)).1 }
         ensures octets { out.new ≡ put out.old (due P.Kind.model Q.Kind.model self.old which time (length out.old)).0 }
+        ensures unchanged { IfErr result (λ _. (self.new ≡ self.old) × (out.new ≡ out.old)) }
     {
         match which {
             Which::First => self.first_out.due(time, out),
@@ -53,6 +56,7 @@ impl<P: Kind, Q: Kind> InService<P, Q> {
     ) -> Result<Option<Written<LONGEST>>, Refusal>
         ensures value { result ≡ (due P.Kind.model Q.Kind.model self.old which time room).0 }
         ensures after { self.new ≡ (due P.Kind.model Q.Kind.model self.old which time room).1 }
+        ensures unchanged { IfErr result (λ _. self.new ≡ self.old) }
     {
         let mut octets = [0; LONGEST];
         let Some(count) = self.due(which, time, &mut octets[..room.min(LONGEST)])? else {

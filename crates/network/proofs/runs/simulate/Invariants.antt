@@ -1,7 +1,7 @@
 use Rattle.std.proofs.Common.{map, drop, length}
 use Rattle.network.specs.Answers.{turn_of}
 use Rattle.network.proofs.Steps.{Kept}
-use Rattle.network.proofs.simulate.simulate.Given as goal
+use Rattle.network.proofs.runs.simulate.Given as goal
 
 abbrev pub invariant-loop-turn : goal.invariant-loop-turn
 invariant-loop-turn g l =

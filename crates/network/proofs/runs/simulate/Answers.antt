@@ -4,7 +4,7 @@ use Rattle.network.specs.Law.{Law}
 use Rattle.network.specs.Answers.{turn_of}
 use Rattle.network.proofs.Steps.{goes_on}
 use Rattle.network.proofs.Rightly.{the_law}
-use Rattle.network.proofs.simulate.simulate.Goals as goal
+use Rattle.network.proofs.runs.simulate.Goals as goal
 
 pub loop-turn-preserved : goal.loop-turn-preserved
 loop-turn-preserved g c =

@@ -10,7 +10,7 @@ use crate::call::{Answer, Turn};
 use crate::ends::Ends;
 use profile::LoadError;
 use std::alloc::Global;
-use trunk::set_up::SetUp;
+use trunk::SetUp;
 use type3::{Either, Kind};
 
 // The two ends after a list of calls, and each call's answer.

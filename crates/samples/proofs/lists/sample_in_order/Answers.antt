@@ -3,7 +3,7 @@ use Rattle.samples.specs.Witness.{five}
 use Rattle.samples.specs.OnceWitness.{ordered}
 use Rattle.samples.proofs.Examples.{answers_said}
 use Rattle.samples.proofs.OnceExamples.{each_event_once_is_not_empty}
-use Rattle.samples.proofs.sample.sample_in_order.Goals as goal
+use Rattle.samples.proofs.lists.sample_in_order.Goals as goal
 
 pub returns-clause-answers : goal.returns-clause-answers
 returns-clause-answers c =
