@@ -10,7 +10,7 @@ pub mod make;
 // The code that ends a tone, of every type. (Codes are numbers, since each type has its own.)
 pub const TONE_OFF: u8 = 31;
 
-// A level n, 0 to 31, stands for -n dBm0. No digit exists whose code its type lacks. (Ghost fields hold the proofs, and
+// A level n, 0 to 31, stands for -n dBm0, and the code is always one that the type has. (Ghost fields hold the proofs, and
 // no model's invariant, since the laws of a kind speak of every value of its message type.)
 #[derive(Clone, Copy, Debug, PartialEq, Eq)]
 pub struct Digit {

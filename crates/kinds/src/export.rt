@@ -13,8 +13,9 @@ use type3::kind::Kind;
 use type3::payload::{Either, Payload};
 use type3::reading::read_either;
 
-// Reads one payload of digits or of CAS. Read, it is message type × 65,536 + octet 1 × 256 + octet 2 of the payload; refused,
-// the refusal's number, and where the kind does not read the body that number + 256 × the cause.
+// Reads one payload of digits or of CAS. Of one that is read, the number has the message type above its lower 16 bits, and in
+// these the payload's first two octets; of one that is refused, it is the refusal's number, with 256 × the cause added where the
+// kind does not read the body.
 #[tactic(auto, using(crate::proofs::Numbers::refused_told))]
 pub fn gublaisma_read_type3(payload: &[u8]) -> u32
     ensures value { result ≡ told payload.now }
@@ -40,7 +41,7 @@ fn type_of(read: Either<Payload<Digit>, Payload<CasBits>>) -> u32
     }
 }
 
-// A refusal's number, and 256 × its cause, if any.
+// A refusal's number, with 256 × the cause added where there is one.
 fn refused(refusal: Refusal) -> u32
     ensures { result ≡ number_told refusal }
 {

@@ -1,4 +1,4 @@
-// The kinds of message of the product, dialled digits and channel-associated signalling, and reading them from C.
+// The product's two kinds of message, digits that were dialled and signalling bits, and how they are read from C.
 #![tactic(auto)]
 
 pub mod cas;

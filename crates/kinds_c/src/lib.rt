@@ -10,8 +10,9 @@ ghost use Rattle.kinds.specs.Export.{told, Apart};
 
 use kinds::export;
 
-// Reads one payload of digits or of CAS. Read, it is message type × 65,536 + octet 1 × 256 + octet 2 of the payload; refused,
-// the refusal's number, and where the kind does not read the body that number + 256 × the cause.
+// Reads one payload of digits or of CAS. Of one that is read, the number has the message type above its lower 16 bits, and in
+// these the payload's first two octets; of one that is refused, it is the refusal's number, with 256 × the cause added where the
+// kind does not read the body.
 #[unsafe(no_mangle)]
 pub extern "C" fn gublaisma_read_type3(payload: &[u8]) -> u32
     ensures value { result ≡ told payload.now }

@@ -19,9 +19,9 @@ pub enum ProfileFault {
     UuiRange,
     // the length is not 1 to 64
     EntryLength,
-    // the width is not 1, 2, 4, 8 or 16, or the first UUI is no multiple of it
+    // the width is no power of two from 1 to 16, or the first UUI is no multiple of it
     Width,
-    // the interval is not 1 to 255, or the packet time is no multiple of it from 1 to 65,535
+    // the interval is not 1 to 255, or the packet time is not one or several whole intervals, or is above 65,535
     Times,
     // the width or the interval is not that of entry 0
     Unlike,
@@ -41,11 +41,11 @@ pub enum SendingFault {
     OffInterval,
     // before the end of the last accepted packet
     Overlap,
-    // before this stream's latest event or due call that was not refused
+    // on this stream an event or a due call of a later time was not refused
     BehindClock,
-    // not later than every time that a packet of this stream was or may still be made for
+    // not later than the stream's last event, or not later than its last refresh
     NotLater,
-    // the buffer does not hold a packet of this kind
+    // the buffer is shorter than a packet of the kind
     BufferTooShort,
 }
 
@@ -53,11 +53,11 @@ pub enum SendingFault {
 #[derive(Clone, Copy, Debug, PartialEq, Eq)]
 pub enum ArrivalFault {
     TimeOutOfRange,
-    // before the last arrival that was not refused
+    // an arrival of a later time was not refused
     RunsBack,
     // neither 0 to 15 nor 24
     UnknownUui,
-    // no entry has this UUI and length
+    // no entry fits the UUI and the length
     NoSuchAudio,
 }
 

@@ -97,8 +97,8 @@ impl<K: Kind> Sender<K> {
         Ok(())
     }
 
-    // What is due at a time: the first unsent packet whose moment has come is written to the start of `out`, and its length
-    // is answered. Called at every millisecond after an event, it sends each packet at its moment.
+    // Sends at most one packet, the first of those that are left, if it is due by this time: writes it to the start of `out`,
+    // and answers its length. Called at every millisecond after an event, it sends each packet at its moment.
     #[tactic(auto, using(crate::proofs::Milliseconds::keeps_its_moments))]
     pub fn due(&mut self, time: u64, out: &mut [u8]) -> Result<Option<usize>, Refusal>
         ensures value { result ≡ counted (due K.Kind.model self.old time (length out.old)).0 }
@@ -132,7 +132,7 @@ impl<K: Kind> Sender<K> {
         Ok(())
     }
 
-    // The first unsent packet whose moment has come.
+    // The packet that a call at this time sends, if one is due.
     fn packet(&self, time: Time) -> Option<Packet<K::Message>>
         ensures { result ≡ due_of self.now time }
     {

@@ -41,7 +41,7 @@ impl Digit {
     }
 }
 
-// The level of whole dBm0: 0 and above give 0, -31 and below give 31, and otherwise -n gives n.
+// The level for whole dBm0: how far below 0 they are, but 0 for what is above, and 31 at most.
 fn level_of(dbm0: i8) -> u8
     ensures { result ≡ level_of dbm0 }
 {
