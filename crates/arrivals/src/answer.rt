@@ -81,7 +81,7 @@ impl fmt::Display for Answer {
     }
 }
 
-// What news of a message stream is, how it was sent, and how far it moves.
+// Of which class news of messages is, how it was sent, and how far it moves.
 fn show_news<T: Copy, W: fmt::Write>(
     news: &MessageNews<T>,
     f: &mut fmt::Formatter<W>,

@@ -37,7 +37,7 @@ few ds = nat_le 1 (ones ds) && nat_le (ones ds) 3
 abbrev pub odd : List Bool → Bool
 odd ds = ones ds % 2 == 1
 
--- one or more changes, all within ten neighbouring bits: none stands ten or more bits after the first
+-- some changes, all in a stretch of ten bits: none stands ten or more bits after the first
 abbrev pub burst : List Bool → Bool
 burst ds = nat_le 1 (ones ds) && ones (drop 10 (from_first ds)) == 0
 

@@ -40,7 +40,7 @@ fn type_of(read: Either<Payload<Digit>, Payload<CasBits>>) -> u32
     }
 }
 
-// A refusal's number, and 256 × its cause, if any.
+// A refusal's number, with 256 × the cause added where there is one.
 fn refused(refusal: Refusal) -> u32
     ensures { result ≡ number_told refusal }
 {

@@ -1,4 +1,4 @@
--- The event with the latest time not after a time, in a list of events that grows. Assumes nothing.
+-- The latest of the events up to a time, in a list of events that grows. Assumes nothing.
 use Rattle.std.proofs.Common.{◌≡◌, ℕ, suc, ◌<◌, ◌≤◌, true, ltb, leb, List, [], ◌∷◌, ◌++◌, Some, refl, ◌∙◌, append-nil, arith}
 use Rattle.std.specs.List.{list_all, filter}
 use Rattle.std.proofs.lemmas.Bool.{lt-ltb, lt-leb}

@@ -67,7 +67,7 @@ module _ {P Q : Type 0} where
   traced_stays : {h : List (Moment P Q)} (m : Moment P Q) {a : Side} {y : Sound P Q} → Traced h a y → Traced (h ++ (m ∷ [])) a y
   traced_stays {h} m {a} {y} r = record { from = r.from; made = packet_stays h m (other a) r.from y.packet r.made; order = λ t e. r.order t (come_before h m a t e) }
 
-  -- a stream that is received holds the sound arrival made for the latest time
+  -- a stream that is received holds the sound arrival with the latest time
   pub record On (label : Packet P Q → ℕ) (turn unit : ℕ) (h : List (Moment P Q)) (a : Side) (stream : Stream) (placed : Option Placed) : Type 0 where
     pub heard : Hears (point label) is_told turn unit (sounds a stream h) placed
     pub traced : (y : Sound P Q) → greatest made_for (sounds a stream h) ≡ Some y → Traced h a y
@@ -103,7 +103,7 @@ module _ {P Q : Type 0} where
   -- ---- one sound arrival
 
   -- The call m brings the sound arrival z on a stream: what is told of it is right, it leaves the other streams as they were, and on its own it is
-  -- the one made for the latest time where it is news.
+  -- the one with the latest time where it is news.
   pub record OneMore (label : Packet P Q → ℕ) (turn unit : ℕ) (h : List (Moment P Q)) (a : Side) (stream : Stream) (placed : Option Placed) (news : Bool) (m : Moment P Q)
       (z : Sound P Q) : Type 0 where
     pub right : Right h z.arrival

@@ -44,7 +44,7 @@ pub record Arrival (P Q : Type 0) : Type 0 where
   pub copies : Option ℕ
   pub news : Option (Named P Q)
 
--- of events, the message of the one with the latest time not after a time
+-- of the events up to a time, the message of the latest
 abbrev pub had_of : {M : Type 0} → ℕ → List (Event M) → Option M
 had_of t es = option_map (λ e. e.message) (greatest (λ e. e.time) (filter (λ e. nat_le e.time t) es))
 
@@ -65,13 +65,13 @@ module _ {P Q : Type 0} where
       filter (λ e. same_kind (kind_of e.message) which)
       (gather (λ before m. cond (same_side side m.side) (accepted m.call m.answer) None) [] h)
 
-  -- the message that a side had at a time: that of its accepted event with the latest time not after it
+  -- the message that a side had at a time: of the events that it accepted, that of the latest up to then
   abbrev pub had : Side → Which → ℕ → List (Moment P Q) → Option (Either P Q)
   had side which t h = had_of t (events side which h)
 
   -- ---- packets
 
-  -- a packet of an event: a refresh is made for the time of its call, a copy for the event's
+  -- a packet of an event: a refresh, made for when it is sent, or a copy, made for when the event was
   abbrev pub of_event : ℕ → List ℕ → Event (Either P Q) → Packet P Q
   of_event t o e = record { time = cond (redundancy_in o == 3) t e.time; content = message e.message; uui = 24; octets = o }
 

@@ -1,4 +1,4 @@
--- A stream of arrivals holds the one that was made for the latest time, which was the latest news; and what one more arrival is
+-- A stream of arrivals holds the one with the latest time, which was the latest news; and what one more arrival is
 -- there. It is said of things of any type that have a point and are news or not. Assumes nothing.
 use Rattle.std.proofs.Common.{◌≡◌, ℕ, ◌+◌, ◌-◌, ◌*◌, ◌<◌, ◌≤◌, Bool, true, false, cond, ltb, List, [], ◌∷◌, ◌++◌, ◌-ℤ◌, nat_abs, Some, None}
 use Rattle.std.proofs.Common.{Ok, Option, Result, sym, refl, ap, ◌∙◌, subst, arith}
@@ -153,12 +153,12 @@ module _ {X : Type 0} (point : X → Point) (news : X → Bool) (span unit : ℕ
             let b = earlier_is (time first) (point y) x (omega arith) in
             subst (Next (first ∷ xs) s x) (sym (is ∙ b)) (is_still (Ok Late) (omega arith) b refl refl)
 
-  -- what is asked of an arrival x beside the one made for the latest time
+  -- what is asked of an arrival x beside the one with the latest time
   pub record Near (y : X) (x : Point) : Type 0 where
     pub order : (point y).arrival ≤ x.arrival
     pub ages : 2 * nat_abs (age x -ℤ age (point y)) < span
 
-  -- one more arrival on a stream, beside the one made for the latest time, if there is one
+  -- one more arrival on a stream, beside the one with the latest time, if there is one
   pub next : (before : List X) (s : Option Placed) (x : Point) → Hears before s → Tells span unit x → x.time ≤ 1099511627775
       → ((y : X) → greatest time before ≡ Some y → Near y x) → Next before s x (told span unit s x.label x.arrival)
   next [] s x e tx in_time near = subst (λ o. Next [] o x (told span unit o x.label x.arrival)) (sym e) (first_one x tx)

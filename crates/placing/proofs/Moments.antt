@@ -1,4 +1,4 @@
--- Moments: their points, one more of them, and the one made for the latest time. Assumes nothing.
+-- Moments: their points, one more of them, and the one with the latest time. Assumes nothing.
 use Rattle.std.proofs.Common.{◌≡◌, ℕ, List, [], ◌∷◌, ◌++◌, Some, None, Option, refl, ap, ◌∙◌, arith}
 use Rattle.std.proofs.lemmas.Grind.{common_steps}
 use Rattle.std.specs.Option.{option_map}

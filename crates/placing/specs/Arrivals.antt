@@ -22,7 +22,7 @@ pub record Point : Type 0 where
   pub arrival : ℕ
   pub time : ℕ
 
--- its arrival time, less the time that it was made for
+-- how much later it arrives than what it was made for
 abbrev pub age : Point → ℤ
 age x = pos x.arrival -ℤ pos x.time
 
@@ -42,7 +42,7 @@ LabelsTell =
 
 -- ---- placed where it was made
 
--- Of two packets that arrive in order and whose ages differ by less than half the span, the elapsed time is that between the
+-- Of two packets that arrive one after the other, with ages less than half the span apart, the elapsed time is that between the
 -- times they were made for.
 abbrev pub PlacedWhereMade : Type 0
 PlacedWhereMade =
@@ -62,8 +62,8 @@ history span unit s (x ∷ xs) =
     let r = place span unit s x.label x.arrival in
     record { point = x; answer = r.0 } ∷ history span unit r.1 xs
 
--- The age rule: of the packets before, take the one made for the latest time, and of several the first to arrive; the two ages
--- differ by less than half the span.
+-- The age rule. Beside an arrival stands the one of those before that has the latest time, and where several have it, the first
+-- that came: the ages of the two lie less than half the span apart.
 abbrev pub near_age : ℕ → Point → Option Point → Bool
 near_age span x None = true
 near_age span x (Some y) = nat_lt (2 * unsigned_abs (age x -ℤ age y)) span
@@ -75,7 +75,7 @@ aged span before x = near_age span x (greatest (λ y. y.time) before)
 abbrev pub in_order : List Point → Point → Bool
 in_order before x = is_time x.time && list_all (λ y. nat_le y.arrival x.arrival) before
 
--- what an arrival is to be answered, beside those before it: the first of them, and the one made for the latest time
+-- what an arrival is to be answered, beside those before it: the first of them, and the one with the latest time
 abbrev pub expected_beside : ℕ → Option Point → Point → Result (Told Moved) Refusal
 expected_beside start None x = Ok (News (record { elapsed = 0; position = 0 }))
 expected_beside start (Some y) x =
@@ -107,7 +107,7 @@ Since (Some m) x r = (n : Moved) → r ≡ Ok (News n) → m.point.time + n.elap
 pub record PlacedRightly (ms : List Moment) : Type 0 where
   -- each answer is the one that the times tell
   pub as_expected : Everywhere (λ before m. m.answer ≡ expected (points before) m.point) [] ms
-  -- news exactly when made for a later time than all before
+  -- news exactly when its time is later than those of all before
   pub news_exactly_when_later : Everywhere (λ before m. is_news m.answer ≡ list_all (λ b. nat_lt b.point.time m.point.time) before) [] ms
   -- the elapsed time is that since the news before
   pub elapsed_since_news : Everywhere (λ before m. Since (last (filter (λ b. is_news b.answer) before)) m.point m.answer) [] ms

@@ -29,7 +29,7 @@ module _ {M : Type 0} where
   new_receiver = record { placed = None; force = None }
 
   module _ (k : Meaning M) where
-    -- whether the message is the one in force
+    -- whether a message is in force already
     abbrev pub in_force : Option M → M → Bool
     in_force None m = false
     in_force (Some n) m = k.same n m

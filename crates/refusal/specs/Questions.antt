@@ -24,7 +24,7 @@ unless (Some f) s does = (Err f, s)
 
 -- ---- tests that questions use
 
--- a time is a whole number of milliseconds, up to 2^40 - 1
+-- times are the numbers up to 2^40 - 1, and count milliseconds
 abbrev pub is_time : ℕ → Bool
 is_time t = nat_le t 1099511627775
 

@@ -69,8 +69,8 @@ module _ {M : Type 0} where
   abbrev pub since : List (Did M) → List ℕ
   since ds = since_from [] ds
 
-  -- The message that the stream had at a time: that of the accepted event with the latest time not after it. (Events are
-  -- accepted in the order of their times.)
+  -- The message that the stream had at a time: of the events accepted for that time or an earlier one, that of the latest. (Events
+  -- are accepted in the order of their times.)
   abbrev pub had_from : Option M → ℕ → List (Did M) → Option M
   had_from o x [] = o
   had_from o x (accepted e ∷ ds) = had_from (cond (nat_le e.time x) (Some e.message) o) x ds

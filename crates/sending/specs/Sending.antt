@@ -40,7 +40,7 @@ module _ {M : Type 0} where
   abbrev pub new_sender : Stream M
   new_sender = record { clock = 0; latest = None; copies = 0; refresh = None; refreshed = None }
 
-  -- later than what its packets were or may still be made for: the times of the latest event and of the last refresh
+  -- later than the latest event and than the last refresh, so than all that the stream's packets are made for
   abbrev pub later_than_made : Stream M → ℕ → Bool
   later_than_made s t = later_than_event s.latest t && later s.refreshed t
 
@@ -62,12 +62,13 @@ module _ {M : Type 0} where
 
   -- ---- what is due
 
-  -- the refresh, if its moment has come: it is made for the time of the call
+  -- the refresh at a call at t, if it is due by then; what it is made for is t too
   abbrev pub refresh_due : Option ℕ → ℕ → M → Option (Packet M)
   refresh_due None t m = None
   refresh_due (Some moment) t m = cond (nat_le moment t) (Some (record { redundancy = 3; time = t; message = m })) None
 
-  -- copy c of an event is due 5 × c ms after it, and is made for the event's time
+  -- the next copy while any is left, 5 ms after the copy before it and the first at once, with the time of the event; after them a
+  -- refresh
   abbrev pub due_by : Stream M → ℕ → Option (Event M) → Option (Packet M)
   due_by s t None = None
   due_by s t (Some e) =
@@ -75,7 +76,7 @@ module _ {M : Type 0} where
       (cond (nat_le (e.time + 5 * s.copies) t) (Some (record { redundancy = s.copies; time = e.time; message = e.message })) None)
       (refresh_due s.refresh t e.message)
 
-  -- the first unsent packet whose moment has come
+  -- the packet that a call at t sends, if one is due
   abbrev pub due_of : Stream M → ℕ → Option (Packet M)
   due_of s t = due_by s t s.latest
 
@@ -90,7 +91,7 @@ module _ {M : Type 0} where
     abbrev pub octets_of : Packet M → List ℕ
     octets_of d = written k (said_by d)
 
-    -- after copy 2 and after each refresh the next refresh is due a gap later, if the message has a gap
+    -- when a refresh is due after a packet was sent at t, the last copy or a refresh: a gap later, or never
     abbrev pub next_refresh : ℕ → M → Option ℕ
     next_refresh t m = option_map (λ gap. t + gap) (k.gap m)
 

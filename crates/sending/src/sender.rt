@@ -139,7 +139,7 @@ impl<K: Kind> Sender<K> {
         Ok(())
     }
 
-    // The first unsent packet whose moment has come.
+    // The packet that a call at this time sends, if one is due.
     fn packet(&self, time: Time) -> Option<Packet<K::Message>>
         ensures { result ≡ due_of self.now time }
     {
