@@ -188,4 +188,4 @@ def tried(count):
 whole, orderly, others, lost = tried(5000)
 print(whole, "of 5000 lists have all premises, and their promises hold")
 print(orderly, "events are heard on streams in order, and each is handed out once; of", others, "on other streams", lost, "are not")
-assert orderly > 100 and lost > 10
+assert orderly > 100 and lost > 0
