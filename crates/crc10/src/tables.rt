@@ -1,43 +1,47 @@
-// The tables of the division, and what each says: what is left of a number after so many zero bits more.
+// The tables of the division, a look-up in each, and the four octets of a word as one number.
 ghost use Rattle.std.specs.Prelude.{◌≡◌, ◌<◌, false, replicate};
 ghost use Rattle.std.specs.Int.{w32, to_be_bytes};
 ghost use Rattle.crc10.specs.Division.{divide_on};
 
-// Four octets as one number, the first octet highest.
-pub fn word_of(octets: [u8; 4]) -> u32
+/// Four octets as one number, the first octet highest.
+pub(crate) fn word_of(octets: [u8; 4]) -> u32
     ensures { octets ≡ to_be_bytes w32 result }
 {
     u32::from_be_bytes(octets)
 }
 
-pub fn after_8_zeros(remainder: u16) -> u16
+/// What is left of a remainder, or of an octet, after 8 zero bits more.
+pub(crate) fn after_8_zeros(remainder: u16) -> u16
     requires { remainder < 1024 }
     ensures { result ≡ divide_on remainder (replicate 8 false) }
 {
     TABLES.after_8_zeros[usize::from(remainder)]
 }
 
-pub fn after_16_zeros(octet: u8) -> u16
+/// What is left of an octet after 16 zero bits more.
+pub(crate) fn after_16_zeros(octet: u8) -> u16
     ensures { result ≡ divide_on octet (replicate 16 false) }
 {
     TABLES.after_16_zeros[usize::from(octet)]
 }
 
-pub fn after_24_zeros(octet: u8) -> u16
+/// What is left of an octet after 24 zero bits more.
+pub(crate) fn after_24_zeros(octet: u8) -> u16
     ensures { result ≡ divide_on octet (replicate 24 false) }
 {
     TABLES.after_24_zeros[usize::from(octet)]
 }
 
-pub fn after_32_zeros(remainder: u16) -> u16
+/// What is left of a remainder after 32 zero bits more.
+pub(crate) fn after_32_zeros(remainder: u16) -> u16
     requires { remainder < 1024 }
     ensures { result ≡ divide_on remainder (replicate 32 false) }
 {
     TABLES.after_32_zeros[usize::from(remainder)]
 }
 
-// Entry i is what is left of i: of each remainder after 8 and after 32 zero bits, of each octet after 16 and after 24. They stand
-// together so that one address is enough for all of them.
+// Entry i of a table is what is left of i after so many zero bits more: as a polynomial, what i times x^8, x^16, x^24 or x^32 leaves.
+// i is a remainder, below 1,024, or an octet. The tables stand in one constant, so that code needs one address for all of them.
 struct Tables {
     after_8_zeros: [u16; 1024],
     after_16_zeros: [u16; 256],
