@@ -138,9 +138,9 @@ def types_and_lengths():
         for length in (5, 6):
             case(framed(0, 0, [1] * (length - 4), message_type))
     for message_type in (0, DIGITS, CAS, WIDE):
-        for length in range(4, 15):
+        for length in range(4, 17):
             case(framed(1, 1000, [0] * (length - 4), message_type))
-    for length in range(15):
+    for length in range(17):
         case(bytes(length))
         case(bytes([255]) * length)
         case(bytes(rng.randrange(256) for _ in range(length)))
