@@ -121,6 +121,9 @@ example({"age"}, {NEWS, ORIGIN}, ["label 0", "audio 5 0 0", "audio 5 80 80"],
         (NEAR, Audio(0, 5, b"\0")), (FAR, Copy(0, 0)), (FAR, Copy(41, 0)))
 example({"age"}, {NEWS, ORIGIN}, ["ok", "sent 00000a050aeb", "digit event 0 0 0 0 5 10", "digit event 0 16384 16384 0 5 10"],
         (NEAR, Event(0, 0, FIVE)), (NEAR, Due(0, 0, 6)), (FAR, Copy(0, 1)), (FAR, Copy(8193, 1)))
+# under mixed widths the span is that of eight labels, between packets of the entry that has sixteen too
+example({"age"}, {ORIGIN}, ["label 0", "audio 3 0 0", "label 8", "audio 3 80 80"],
+        (NEAR, Audio(0, 3, b"\0")), (FAR, Copy(0, 0)), (NEAR, Audio(40, 3, b"\0")), (FAR, Copy(61, 2)), profile=EXAMPLES["mixed"])
 # the reference is the first to arrive: by the second, whose age is 39, the packet of 5 would be in time
 example({"age"}, {ORIGIN}, ["label 0", "audio 5 0 0", "repeat audio", "label 1", "audio 5 85 85"],
         (NEAR, Audio(0, 5, b"\0")), (FAR, Copy(0, 0)), (FAR, Copy(39, 0)), (NEAR, Audio(5, 5, b"\0")), (FAR, Copy(80, 3)), least=False)
@@ -129,15 +132,17 @@ example({"age"}, {ORIGIN}, ["label 0", "audio 5 0 0", "repeat audio", "label 1",
 # ---- random lists
 
 def tried(count):
-    """How many lists had all premises; of them every promise holds."""
+    """How many lists had all premises, and how many of these a profile of several widths; every promise holds of them."""
     rng = random.Random(7)
-    whole = 0
+    whole = several = 0
     for _ in range(count):
-        ends = Maker(rng, random_profile(rng), wild=False).made(rng.randrange(10, 40))
+        profile = random_profile(rng)
+        ends = Maker(rng, profile, wild=False).made(rng.randrange(10, 40))
         if not broken_premises(ends):
             whole += 1
+            several += len({entry.width for entry in profile}) > 1
             assert not broken_promises(ends), broken_promises(ends)
-    return whole
+    return whole, several
 
 
-print(tried(5000), "of 5000 lists have all premises, and their promises hold")
+print("{} of 5000 lists have all premises, {} of them under profiles of several widths, and their promises hold".format(*tried(5000)))
