@@ -23,9 +23,9 @@ pub enum ProfileFault {
     Width,
     // the interval is not 1 to 255, or the packet time is no multiple of it from 1 to 65,535
     Times,
-    // the width or the interval is not that of entry 0
+    // the interval is not that of entry 0
     Unlike,
-    // the range and the length of an earlier entry
+    // an earlier entry of the same length has a UUI in common with it
     Duplicate,
 }
 
