@@ -37,8 +37,9 @@ impl Numbers {
         (0..length).map(|_| self.below(256) as u8).collect()
     }
 
+    // Reserved bits are set as they come, here and of digits: old units set some of them.
     fn bits(&mut self) -> Vec<u8> {
-        vec![self.below(16) as u8]
+        vec![self.below(256) as u8]
     }
 
     // Of any system, one in eight the end of a tone.
@@ -48,7 +49,7 @@ impl Numbers {
         } else {
             1 + self.below(14)
         };
-        vec![self.below(32) as u8, (self.below(4) << 5 | code) as u8]
+        vec![self.below(256) as u8, (self.below(4) << 5 | code) as u8]
     }
 
     fn audio(&mut self, time: u64, length: usize) -> Packet {
@@ -138,7 +139,7 @@ fn refused(numbers: &mut Numbers, time: u64) -> Packet {
         3 => (time, 5, numbers.octets(41)),
         4 => (time, 24, type3(0, time, 5, &[0])),
         5 => (time, 24, type3(0, time, CAS, &numbers.digit())),
-        6 => (time, 24, type3(0, time, DIGITS, &[32, 5])),
+        6 => (time, 24, type3(0, time, DIGITS, &[10, 128])),
         7 => (time, 24, Vec::new()),
         _ => {
             let mut octets = type3(0, time, DIGITS, &numbers.digit());

@@ -49,12 +49,11 @@ static uint32_t read(unsigned type, const uint8_t *payload)
     return (uint32_t)type << 16 | (uint32_t)payload[0] << 8 | payload[1];
 }
 
+/* Of the body's first octet nothing is asked: the upper three bits are reserved, and the others are any level. */
 static uint32_t read_digit(const uint8_t *payload, size_t length)
 {
     if (length != 6)
         return KIND_LENGTH;
-    if (payload[2] > 31)
-        return refused_body(1);
     if (payload[3] >> 5 > 3)
         return refused_body(2);
     if (!has_code(payload[3] >> 5, payload[3] & 31))
@@ -62,12 +61,11 @@ static uint32_t read_digit(const uint8_t *payload, size_t length)
     return read(DIGITS, payload);
 }
 
+/* Any body is read: its upper four bits are reserved. */
 static uint32_t read_cas(const uint8_t *payload, size_t length)
 {
     if (length != 5)
         return KIND_LENGTH;
-    if (payload[2] > 15)
-        return refused_body(1);
     return read(CAS, payload);
 }
 

@@ -24,8 +24,8 @@ extern "C" {
  *     25   its message type is neither digits nor CAS
  *     26   its length is not that of its kind: 6 octets for digits, 5 for CAS
  *     27 + 256 * cause   its body is no message of its kind
- * The causes of digits: 1 an upper bit of the level's octet is set (283), 2 the digit type is above 3 (539), 3 the code is
- * not of its digit type (795). The cause of CAS: 1 an upper bit is set (283).
+ * The causes of digits: 2 the digit type is above 3 (539), 3 the code is not of its digit type (795). CAS has no cause.
+ * Reserved bits, which are the upper three of a digit's first octet and the upper four of CAS, are ignored; the CRC covers them.
  */
 uint32_t gublaisma_read_type3(const uint8_t *payload, size_t length);
 

@@ -4,6 +4,7 @@ import random
 import subprocess
 import sys
 from collections import Counter
+from itertools import product
 
 from end import CODES, STAMPS, TONE_OFF, Cas, CasBits, Digit, Digits, Payload, framed, told_to_c, written
 
@@ -29,8 +30,26 @@ def checked(rng):
     return framed(rng.randrange(4), rng.randrange(STAMPS), rng.randbytes(length), message_type)
 
 
+RESERVED = {Digits.message_type: 0xE0, Cas.message_type: 0xF0}
+
+
+def with_reserved(rng, octets):
+    """A payload of digits or of CAS with some of its reserved bits set, and the check made anew."""
+    message_type = octets[-2] // 4
+    body = [octets[2] | rng.randrange(256) & RESERVED[message_type], *octets[3:-2]]
+    return framed(octets[0] // 64, octets[0] % 64 * 256 + octets[1], body, message_type)
+
+
+def old(rng):
+    return with_reserved(rng, sound(rng))
+
+
+def has_reserved(octets):
+    return octets[2] & RESERVED[octets[-2] // 4] != 0
+
+
 def mutated(rng):
-    octets = bytearray(rng.choice([sound, checked])(rng))
+    octets = bytearray(rng.choice([sound, old, checked])(rng))
     for _ in range(rng.choice([1, 1, 1, 2, 2, 3, 4, 5, 8])):
         way = rng.randrange(5)
         if way == 0:
@@ -52,23 +71,37 @@ def told(seen):
     return ", ".join(f"{count} {answer}" for answer, count in sorted(seen.items(), key=str))
 
 
+def compare(program, payloads, seen):
+    """Each payload is answered as the oracle answers it; counts the answers."""
+    asked = b"".join(bytes([len(octets)]) + octets for octets in payloads)
+    said = subprocess.run([program], input=asked, capture_output=True, check=True)
+    answers = [int(answer) for answer in said.stdout.split()]
+    assert len(answers) == len(payloads)
+    for octets, answer in zip(payloads, answers):
+        if answer != told_to_c(octets):
+            sys.exit(f"payload {octets.hex() or '-'}: {answer}, and not {told_to_c(octets)}")
+        read = "read with reserved bits" if answer >= 65536 and has_reserved(octets) else "read"
+        seen[read if answer >= 65536 else answer] += 1
+
+
+def compare_bodies(program):
+    """Every body of digits, and every one of CAS."""
+    for kind, bodies in ((Digits, product(range(256), range(256))), (Cas, product(range(256)))):
+        seen = Counter()
+        compare(program, [framed(0, 0, body, kind.message_type) for body in bodies], seen)
+        print(f"all bodies of {kind.name} are answered as the oracle answers them:", told(seen))
+
+
 def main():
     program, count, seed = sys.argv[1], int(sys.argv[2]), int(sys.argv[3])
+    compare_bodies(program)
     rng = random.Random(seed)
     seen = Counter()
-    ways = [sound, checked, mutated, mutated, mutated, hostile]
+    ways = [sound, old, checked, mutated, mutated, mutated, hostile]
     for start in range(0, count, CHUNK):
-        payloads = [rng.choice(ways)(rng) for _ in range(min(CHUNK, count - start))]
-        asked = b"".join(bytes([len(octets)]) + octets for octets in payloads)
-        said = subprocess.run([program], input=asked, capture_output=True, check=True)
-        answers = [int(answer) for answer in said.stdout.split()]
-        assert len(answers) == len(payloads)
-        for octets, answer in zip(payloads, answers):
-            if answer != told_to_c(octets):
-                sys.exit(f"payload {octets.hex() or '-'}: {answer}, and not {told_to_c(octets)}")
-            seen["read" if answer >= 65536 else answer] += 1
-    numbers = {23, 24, 25, 26, 27 + 256, 27 + 512, 27 + 768, "read"}
-    assert numbers <= set(seen), seen
+        compare(program, [rng.choice(ways)(rng) for _ in range(min(CHUNK, count - start))], seen)
+    numbers = {23, 24, 25, 26, 27 + 512, 27 + 768, "read", "read with reserved bits"}
+    assert numbers == set(seen), seen
     print(f"{count} payloads are answered as the oracle answers them:", told(seen))
 
 

@@ -122,6 +122,9 @@ example({"age"}, {NEWS, ORIGIN}, ["label 0", "audio 5 0 0", "audio 5 80 80"],
         (NEAR, Audio(0, 5, b"\0")), (FAR, Copy(0, 0)), (FAR, Copy(41, 0)))
 example({"age"}, {NEWS, ORIGIN}, ["ok", "sent 00000a050aeb", "digit event 0 0 0 0 5 10", "digit event 0 16384 16384 0 5 10"],
         (NEAR, Event(0, 0, FIVE)), (NEAR, Due(0, 0, 6)), (FAR, Copy(0, 1)), (FAR, Copy(8193, 1)))
+# under mixed widths the span is that of eight labels, between packets of the entry that has sixteen too
+example({"age"}, {ORIGIN}, ["label 0", "audio 3 0 0", "label 8", "audio 3 80 80"],
+        (NEAR, Audio(0, 3, b"\0")), (FAR, Copy(0, 0)), (NEAR, Audio(40, 3, b"\0")), (FAR, Copy(61, 2)), profile=EXAMPLES["mixed"])
 # the reference is the first to arrive: by the second, whose age is 39, the packet of 5 would be in time
 example({"age"}, {ORIGIN}, ["label 0", "audio 5 0 0", "repeat audio", "label 1", "audio 5 85 85"],
         (NEAR, Audio(0, 5, b"\0")), (FAR, Copy(0, 0)), (FAR, Copy(39, 0)), (NEAR, Audio(5, 5, b"\0")), (FAR, Copy(80, 3)), least=False)
@@ -161,16 +164,18 @@ assert [event.time for event in not_once(overtaken.history, FAR, 0)] == [1000]
 # ---- random lists
 
 def tried(count):
-    """Of random lists, those with all premises, of which every promise holds. How many there are, how many events are heard on streams that
-    keep their order and on others, and how many of the latter are not handed out once.
+    """Of random lists, those with all premises, of which every promise holds. How many there are, how many of them under profiles of several
+    widths, how many events are heard on streams that keep their order and on others, and how many of the latter are not handed out once.
     """
     rng = random.Random(7)
-    whole, orderly, others, lost = 0, 0, 0, 0
+    whole = several = orderly = others = lost = 0
     for _ in range(count):
-        ends = Maker(rng, random_profile(rng), wild=False).made(rng.randrange(10, 40))
+        profile = random_profile(rng)
+        ends = Maker(rng, profile, wild=False).made(rng.randrange(10, 40))
         if broken_premises(ends):
             continue
         whole += 1
+        several += len({entry.width for entry in profile}) > 1
         assert not broken_promises(ends), broken_promises(ends)
         for side in OTHER:
             for which in range(len(KINDS)):
@@ -182,10 +187,10 @@ def tried(count):
                 else:
                     others += events_heard
                     lost += len(not_once(h, side, which))
-    return whole, orderly, others, lost
+    return whole, several, orderly, others, lost
 
 
-whole, orderly, others, lost = tried(5000)
-print(whole, "of 5000 lists have all premises, and their promises hold")
+whole, several, orderly, others, lost = tried(5000)
+print(whole, "of 5000 lists have all premises,", several, "of them under profiles of several widths, and their promises hold")
 print(orderly, "events are heard on streams in order, and each is handed out once; of", others, "on other streams", lost, "are not")
 assert orderly > 100 and lost > 0

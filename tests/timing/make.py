@@ -386,7 +386,7 @@ def bad_lines():
     """They change nothing."""
     new()
     profile("A")
-    for line in ("", " ", "new ", " new", "NEW", "new 1", "profile", "profile ", "profile D", "profile a",
+    for line in ("", " ", "new ", " new", "NEW", "new 1", "profile", "profile ", "profile D", "profile a", "profile Mixed",
                  "profile A B", "key", "key 90", "key 90 ", "key 90 55", "key  5", "key x 5", "key -1 5", "key 1.5 5",
                  f"key {LARGEST + 1} 5", "key 90 5 5", "off", "off ", "off x", "off 90 5", f"off {LARGEST + 1}",
                  "cas 90", "cas 90 ", "cas 90 000", "cas 90 00000", "cas 90 0002", "cas x 0000",
@@ -485,7 +485,7 @@ def wander():
         streams = [[DIGITS], [CAS], [DIGITS, CAS]][turn % 3]
         with_audio = turn % 4 == 3
         if with_audio:
-            profile(rng.choice("ABC"))
+            profile(rng.choice(list(EXAMPLES)))
             start = some_start()
             audio(start - start % 5, 0, trunk.profile[0].length)
         for which in streams:

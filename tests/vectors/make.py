@@ -120,17 +120,20 @@ def bad_digits():
 
 
 def bodies():
-    """Every second octet of a digit, many first ones, and every octet of signalling bits, each with a right check."""
+    """Every first and every second octet of a digit, and every octet of signalling bits, each with a right check."""
     for rest in range(256):
         case(framed(2, 4660, [9, rest], DIGITS))
-    for level in (0, 30, 31, 32, 33, 63, 64, 128, 255):
-        case(framed(0, 255, [level, 5], DIGITS))
-    # the level is asked before the type, and the type before the code
-    case(framed(0, 0, [32, 0x90], DIGITS), "refused 27 cause 1")
-    case(framed(0, 0, [31, 0x90], DIGITS), "refused 27 cause 2")
-    case(framed(0, 0, [31, 0x70], DIGITS), "refused 27 cause 3")
-    for octet in [*range(33), 64, 127, 128, 240, 255]:
-        case(framed(1, 256, [octet], CAS))
+    for octet in range(256):
+        case(framed(0, 255, [octet, 5], DIGITS), f"digit 0 255 {octet % 32} 0 5")
+        case(framed(1, 256, [octet], CAS), f"cas 1 256 {octet % 16:04b}")
+    # the type is asked before the code, whatever the reserved bits are
+    for level in (31, 32, 128, 255):
+        case(framed(0, 0, [level, 0x90], DIGITS), "refused 27 cause 2")
+        case(framed(0, 0, [level, 0x70], DIGITS), "refused 27 cause 3")
+    # a reserved bit is a bit of the check as any other
+    for octets, reserved in ((digit_octets(0, 0, 0, 5, -10), 3), (cas_octets(3, 16383, 15), 4)):
+        for place in range(16, 16 + reserved):
+            case(changed(octets, [place]), "refused 24")
 
 
 def types_and_lengths():
@@ -138,9 +141,9 @@ def types_and_lengths():
         for length in (5, 6):
             case(framed(0, 0, [1] * (length - 4), message_type))
     for message_type in (0, DIGITS, CAS, WIDE):
-        for length in range(4, 15):
+        for length in range(4, 17):
             case(framed(1, 1000, [0] * (length - 4), message_type))
-    for length in range(15):
+    for length in range(17):
         case(bytes(length))
         case(bytes([255]) * length)
         case(bytes(rng.randrange(256) for _ in range(length)))

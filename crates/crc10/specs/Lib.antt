@@ -1,3 +1,4 @@
 pub mod Division
 pub mod Check
 pub mod Changes
+pub mod Worked

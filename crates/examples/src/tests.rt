@@ -4,7 +4,7 @@ use crate::wide::{Mark, Wide};
 use crc10::crc_of;
 use kinds::{Cas, CasBits, Digit, Digits, System};
 use std::test::Fail;
-use type3::{Payload, Redundancy, Stamp, read_either, read_payload, write_payload};
+use type3::{Kind, Payload, Redundancy, Stamp, read_either, read_payload, write_payload};
 
 const NO_BITS: CasBits = CasBits {
     a: false,
@@ -126,6 +126,49 @@ fn check_value(rt: HostRuntime) {
         0x00, 0xc4, 0xc8, 0xcc, 0xd0, 0xd4, 0xd8, 0xdc, 0xe0, 0xe4, 0x00,
     ];
     assert_eq!(rt; crc_of(&text), 0x199);
+}
+
+// How many bodies of digits have this cause, or none, as those that are read.
+fn digit_bodies(cause: Option<u8>) -> u32 {
+    let mut count = 0u32;
+    for first in 0..=255 {
+        for second in 0..=255 {
+            let refusal = Digits::read_body(&[first, second]).err();
+            if refusal.and_then(|refusal| refusal.cause()) == cause {
+                count = count.saturating_add(1);
+            }
+        }
+    }
+    count
+}
+
+#[test]
+fn all_bodies_of_digits(rt: HostRuntime) {
+    assert_eq!(rt; digit_bodies(None), 16_640);
+    assert_eq!(rt; digit_bodies(Some(1)), 0);
+    assert_eq!(rt; digit_bodies(Some(2)), 32_768);
+    assert_eq!(rt; digit_bodies(Some(3)), 16_128);
+}
+
+// The upper four bits are reserved, and the bits are those of the lower four.
+#[test]
+fn all_bodies_of_cas(rt: HostRuntime) -> Result<(), Fail> {
+    for octet in 0..=255 {
+        assert_eq!(rt; Cas::read_body(&[octet])?.octet(), octet % 16);
+    }
+    Ok(())
+}
+
+// A refresh of an old unit, with all reserved bits of the level's octet set: first under its check, then under that of the octets
+// without them.
+#[test]
+fn key_five_of_an_old_unit(rt: HostRuntime) -> Result<(), Fail> {
+    let read = read_payload::<Digits>(&[0xc5, 0xe6, 0xea, 0x05, 0x0a, 0xe8])?;
+    assert_eq!(rt; read.message, Digit::of_key('5', -10)?);
+    assert_eq!(rt; read.redundancy.get(), 3);
+    assert_eq!(rt; read.stamp.get(), 1510);
+    assert_eq!(rt; refused(&[0x00, 0x00, 0xea, 0x05, 0x0a, 0xeb]), Some(24));
+    Ok(())
 }
 
 #[test]

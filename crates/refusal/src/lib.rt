@@ -28,7 +28,7 @@ pub enum ProfileFault {
     Times,
     /// 6: the interval is not that of entry 0
     Unlike,
-    /// 7: an earlier entry has a UUI in common with it, and its length
+    /// 7: an earlier entry of the same length has a UUI in common with it
     Duplicate,
 }
 

@@ -24,10 +24,10 @@ module _ {M : Type 0} (k : Meaning M) (law : Lawful k) (x : Payload M) (out : Li
       ∙ ap (λ z. ((x.redundancy * 64 + x.stamp / 256) ∷ (x.stamp % 256) ∷ (k.body x.message ++ z ∷ 0 ∷ [])) ++ drop (k.len + 4) out) none)
 
   -- and then with the check of that
-  pub sealed_is : (one : List ℕ) (n t check : ℕ) → n ≡ k.len + 4 → t ≡ k.message_type → one ≡ framed k x 0 ++ drop (k.len + 4) out
+  pub payload_is : (one : List ℕ) (n t check : ℕ) → n ≡ k.len + 4 → t ≡ k.message_type → one ≡ framed k x 0 ++ drop (k.len + 4) out
       → check ≡ crc_of (take n one)
       → set (set one (n - 2) (t * 4 + check / 256)) (n - 1) (check % 256) ≡ written k x ++ drop (k.len + 4) out
-  sealed_is one n t check en et e f =
+  payload_is one n t check en et e f =
       let long = length_framed k law x 0 in
       let low : n - 2 ≡ k.len + 2 = omega arith in
       let high : n - 1 ≡ k.len + 2 + 1 = omega arith in

@@ -1,9 +1,12 @@
 use Rattle.std.proofs.Common.{rules}
-use Rattle.crc10.proofs.Octets.{octet_by_table, low_by_table}
+use Rattle.crc10.proofs.Words.{octet_by_table, octet_lt}
 use Rattle.crc10.proofs.remainder.Remainder.after.Goals as goal
 
 pub invariant_of-result : goal.invariant_of-result
-invariant_of-result c = search (rules, low_by_table)
+invariant_of-result c =
+    octet_lt c.self.inside.value c.args.octet _ _ c.self.invariant (search rules) c.after_8_zeros.ensures c.from.ensures
 
 pub returns : goal.returns
-returns c = rw (← c.self.view_is) (search (rules, octet_by_table))
+returns c =
+    rw (← c.self.view_is)
+    (octet_by_table c.self.inside.value c.args.octet _ _ c.self.invariant (search rules) c.after_8_zeros.ensures c.from.ensures)
