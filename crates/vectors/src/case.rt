@@ -3,7 +3,7 @@ use crate::answer::Answer;
 use crate::reading::{read, read_wide};
 use crate::writing::Asked;
 use examples::hex::{Letters, octets_of};
-use kinds::gublaisma_read_type3;
+use kinds::read_as_number;
 use std::alloc::{AllocError, Global};
 
 // A line that is no case, or has a number out of its range, is a bad one.
@@ -35,5 +35,5 @@ fn answer_octets<F: FnOnce(&[u8]) -> Answer>(
 
 // What a C program is told.
 fn export(octets: &[u8]) -> Answer {
-    Answer::Told(gublaisma_read_type3(octets))
+    Answer::Told(read_as_number(octets))
 }
