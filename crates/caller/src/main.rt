@@ -1,12 +1,12 @@
-// A host's program in short: an end is set up, started, used, stopped and started again.
+//! A host's program in short: an end is set up, started, used, stopped and started again.
 #![tactic(auto)]
 
-use examples::hex::Hex;
 use kinds::cas::{Cas, CasBits};
 use kinds::digit::Digit;
 use kinds::digits::Digits;
 use placing::stream::Told;
 use profile::examples::Example;
+use text::hex::Hex;
 use trunk::answer::{Arrived, Which};
 use trunk::service::InService;
 use trunk::set_up::SetUp;
@@ -26,9 +26,9 @@ const BITS: CasBits = CasBits {
 };
 
 fn main(rt: HostRuntime) -> anyhow::Result<()> {
-    let heap = rt.alloc();
-    let mut early = SetUp::new(heap)?;
-    early.load(heap, Example::B.entries())?;
+    let alloc = rt.alloc();
+    let mut early = SetUp::new(alloc)?;
+    early.load(alloc, Example::B.entries())?;
     let mut busy = early.start::<Digits, Cas>();
     busy.event(1000, Either::First(Digit::of_key('5', LEVEL)?))?;
     for time in 1000..1020 {
@@ -39,7 +39,7 @@ fn main(rt: HostRuntime) -> anyhow::Result<()> {
     tell_arrival(&rt, &mut busy, 1003, &[0x00, 0x00, 0x0a, 0x05, 0x0a, 0xeb])?;
     tell_arrival(&rt, &mut busy, 1004, &[0x00, 0x00, 0x0a, 0x05, 0x0a, 0xea])?;
     let mut end = busy.stop();
-    end.load(heap, Example::C.entries())?;
+    end.load(alloc, Example::C.entries())?;
     let mut end = end.start::<Digits, Cas>();
     end.event(0, Either::Second(BITS))?;
     tell_due(&rt, &mut end, 0)?;

@@ -1,4 +1,4 @@
-// Two ends and a list of calls run, where there is memory.
+//! Two ends and a list of calls run, where there is memory.
 use kinds::digit::Digit;
 use network::sample::sample;
 use network::side::Side;

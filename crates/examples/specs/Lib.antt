@@ -1,4 +1,2 @@
 pub mod Wide
-pub mod Hex
-pub mod Bits
 pub mod WideLaws

@@ -1,11 +1,6 @@
-// What the programs share: octets, signalling bits and refusals as text, and lines that are answered. And a kind of message at
-// every limit, with tests.
+//! A kind of message at every limit, in no way known to the others, and tests of payloads that are known octet by octet.
 #![tactic(auto)]
 
-pub mod bits;
-pub mod hex;
-pub mod lines;
-pub mod refused;
 #[cfg(test)]
 mod tests;
 pub mod wide;

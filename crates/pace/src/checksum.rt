@@ -1,4 +1,4 @@
-// The checksum of a list of answers: a number of each, and these folded into one.
+//! The checksum of a list of answers: a number of each, and these folded into one.
 ghost use Rattle.std.specs.Prelude.{◌≡◌};
 ghost use Rattle.pace.specs.Checksum.{add, of_digit, of_force, of_moved, of_audio, of_class, of_news, of_refusal, of_answer};
 ghost use Rattle.kinds.specs.Cas.{octet};
@@ -11,14 +11,14 @@ use refusal::Refusal;
 use trunk::answer::{Arrived, AudioNews};
 use type3::payload::Either;
 
-// The sum so far, and a further number.
+/// The sum so far, and a further number.
 pub fn add(sum: u64, number: u64) -> u64
     ensures { result ≡ add sum number }
 {
     sum.wrapping_mul(31).wrapping_add(number)
 }
 
-// Where nothing is in force it is 0.
+/// The number of what is in force, and 0 for nothing.
 pub fn of_force(force: Option<Either<Digit, CasBits>>) -> u64
     ensures { result ≡ of_force force }
 {
@@ -29,6 +29,7 @@ pub fn of_force(force: Option<Either<Digit, CasBits>>) -> u64
     }
 }
 
+/// The number of an answer to an arrival.
 pub fn of_answer(answer: Result<Arrived<Digit, CasBits>, Refusal>) -> u64
     ensures { result ≡ of_answer answer }
 {
