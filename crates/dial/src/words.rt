@@ -1,6 +1,5 @@
-// Messages, packets and answers as text.
+//! Messages, packets and answers as text.
 use crate::script::Message;
-use examples::hex::Hex;
 use kinds::cas::{Cas, CasBits};
 use kinds::digit::Digit;
 use kinds::digits::Digits;
@@ -9,16 +8,18 @@ use placing::receiver::MessageNews;
 use placing::stream::Told;
 use refusal::Refusal;
 use std::fmt;
+use text::bits::FourDigits;
+use text::hex::Hex;
 use trunk::answer::Arrived;
 use type3::bounded::Redundancy;
 use type3::payload::{Either, TYPE_3_UUI};
 use type3::reading::read_either;
 
-// A message.
+/// A message.
 #[derive(Drop)]
-pub struct Said(pub Message);
+pub struct MessageText(pub Message);
 
-impl fmt::Display for Said {
+impl fmt::Display for MessageText {
     fn fmt<W: fmt::Write>(&self, f: &mut fmt::Formatter<W>) -> fmt::Result {
         match self.0 {
             Either::First(digit) => match key_of(digit.code()) {
@@ -27,17 +28,17 @@ impl fmt::Display for Said {
             },
             Either::Second(bits) => {
                 let hook = if bits.a { "off-hook" } else { "on-hook" };
-                write!(f, "bits {:04b} ({hook})", bits.octet())
+                write!(f, "bits {} ({hook})", FourDigits(bits))
             }
         }
     }
 }
 
-// How a message was sent.
+/// How a message was sent.
 #[derive(Drop)]
-pub struct SentAs(pub Redundancy);
+pub struct RedundancyText(pub Redundancy);
 
-impl fmt::Display for SentAs {
+impl fmt::Display for RedundancyText {
     fn fmt<W: fmt::Write>(&self, f: &mut fmt::Formatter<W>) -> fmt::Result {
         match self.0.get() {
             3 => write!(f, "refresh"),
@@ -46,29 +47,34 @@ impl fmt::Display for SentAs {
     }
 }
 
-// What the octets of a packet carry.
+/// What the octets of a packet carry.
 #[derive(Drop)]
-pub struct Carried<'a>(pub &'a [u8]);
+pub struct PayloadText<'a>(pub &'a [u8]);
 
-impl<'a> fmt::Display for Carried<'a> {
+impl<'a> fmt::Display for PayloadText<'a> {
     fn fmt<W: fmt::Write>(&self, f: &mut fmt::Formatter<W>) -> fmt::Result {
         let (message, redundancy) = match read_either::<Digits, Cas>(self.0) {
             Ok(Either::First(payload)) => (Either::First(payload.message), payload.redundancy),
             Ok(Either::Second(payload)) => (Either::Second(payload.message), payload.redundancy),
             Err(refusal) => return write!(f, "{refusal}"),
         };
-        write!(f, "{}, {}", Said(message), SentAs(redundancy))
+        write!(
+            f,
+            "{}, {}",
+            MessageText(message),
+            RedundancyText(redundancy)
+        )
     }
 }
 
-// A packet: its octets are shown where it is of type 3, and otherwise their number.
+/// A packet: its octets are shown where it is of type 3, and otherwise their number.
 #[derive(Drop)]
-pub struct Packet<'a> {
+pub struct PacketText<'a> {
     pub uui: u16,
     pub octets: &'a [u8],
 }
 
-impl<'a> fmt::Display for Packet<'a> {
+impl<'a> fmt::Display for PacketText<'a> {
     fn fmt<W: fmt::Write>(&self, f: &mut fmt::Formatter<W>) -> fmt::Result {
         let uui = self.uui;
         if uui == TYPE_3_UUI {
@@ -79,11 +85,11 @@ impl<'a> fmt::Display for Packet<'a> {
     }
 }
 
-// The answer to an arrival.
+/// The answer to an arrival.
 #[derive(Drop)]
-pub struct Heard<'a>(pub &'a Result<Arrived<Digit, CasBits>, Refusal>);
+pub struct ArrivalText<'a>(pub &'a Result<Arrived<Digit, CasBits>, Refusal>);
 
-impl<'a> fmt::Display for Heard<'a> {
+impl<'a> fmt::Display for ArrivalText<'a> {
     fn fmt<W: fmt::Write>(&self, f: &mut fmt::Formatter<W>) -> fmt::Result {
         match self.0 {
             Ok(Arrived::Audio(Told::News(news))) => {
@@ -117,9 +123,9 @@ fn message_news<T: Copy, W: fmt::Write>(
     f: &mut fmt::Formatter<W>,
 ) -> fmt::Result {
     let class = news.class;
-    let said = Said(message);
+    let said = MessageText(message);
     let elapsed = news.moved.elapsed;
-    let sent_as = SentAs(news.redundancy);
+    let sent_as = RedundancyText(news.redundancy);
     write!(
         f,
         "news, {class}, {said}, {sent_as}, {elapsed} ms after the news before"

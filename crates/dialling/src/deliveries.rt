@@ -1,45 +1,47 @@
-// What the network does with packets: it loses, repeats, holds back and spoils them by their numbers, and takes longer and longer.
+//! What the network does with packets: it loses, repeats, holds back and spoils them by their numbers, and takes longer and
+//! longer.
 ghost use Rattle.std.specs.Prelude.{◌≡◌, ◌<◌, ◌^◌};
-ghost use Rattle.dialling.specs.Network.{fate, arrival, again, held_back, at, deliveries, far_time};
+ghost use Rattle.dialling.specs.Network.{treatment, arrival, repeat_delay, holding_delay, delivery_at, deliveries, far_time};
 
 use refusal::times::Time;
 
-// Packets of a sort are numbered by themselves, and have a delay of their own.
+/// Packets of a sort are numbered by themselves, and have a delay of their own.
 #[derive(Clone, Copy, PartialEq)]
 pub enum Sort {
     Message,
     Audio,
 }
 
-// What happens to a packet.
+/// What happens to a packet.
 #[derive(Clone, Copy)]
-pub enum Fate {
+pub enum Treatment {
     Lost,
     Arrives,
-    // and once more, some time later
+    /// and once more, some time later
     Twice,
-    // for some time
+    /// for some time
     HeldBack,
-    // a spoiled copy arrives, and then the packet
+    /// a spoiled copy arrives, and then the packet
     Spoiled,
-    // and a foreign packet with it
+    /// and a foreign packet with it
     WithForeign,
 }
 
+/// How a packet is when it arrives.
 #[derive(Clone, Copy)]
-pub enum State {
+pub enum Condition {
     Sound,
-    // the lowest bit of the third octet is changed
+    /// the lowest bit of the third octet is changed
     Spoiled,
-    // a packet of nobody, in its place
+    /// a packet of nobody, in its place
     Foreign,
 }
 
-// What arrives of a packet, at a time of the near end's clock.
+/// What arrives of a packet, at a time of the near end's clock.
 #[derive(Clone, Copy)]
 pub struct Delivery {
     pub time: u64,
-    pub state: State,
+    pub condition: Condition,
 }
 
 // In milliseconds: from a spoiled copy to the packet.
@@ -49,30 +51,30 @@ const AFTER_SPOILED: u64 = 20;
 const AHEAD: u64 = 5_000_000;
 
 impl Sort {
-    // What happens to the packet of a number. (The first three messages are the copies of off-hook.)
-    pub fn fate(self, number: usize) -> Fate
-        ensures { result ≡ fate self number }
+    /// What happens to the packet of a number. (The first three messages are the copies of off-hook.)
+    pub fn treatment(self, number: usize) -> Treatment
+        ensures { result ≡ treatment self number }
     {
         match self {
-            Sort::Message if number < 3 => Fate::Lost,
+            Sort::Message if number < 3 => Treatment::Lost,
             Sort::Message => match number % 8 {
-                0 => Fate::Lost,
-                2 => Fate::Twice,
-                4 => Fate::HeldBack,
-                6 => Fate::Spoiled,
-                7 => Fate::WithForeign,
-                _ => Fate::Arrives,
+                0 => Treatment::Lost,
+                2 => Treatment::Twice,
+                4 => Treatment::HeldBack,
+                6 => Treatment::Spoiled,
+                7 => Treatment::WithForeign,
+                _ => Treatment::Arrives,
             },
             Sort::Audio => match number % 5 {
-                1 => Fate::Lost,
-                2 => Fate::Twice,
-                3 => Fate::HeldBack,
-                _ => Fate::Arrives,
+                1 => Treatment::Lost,
+                2 => Treatment::Twice,
+                3 => Treatment::HeldBack,
+                _ => Treatment::Arrives,
             },
         }
     }
 
-    // When a packet that was sent at a time arrives, if nothing happens to it.
+    /// When a packet that was sent at a time arrives, if nothing happens to it.
     pub fn arrival(self, sent: Time) -> u64
         ensures value { result ≡ arrival self sent }
         ensures below { result < 2 ^ 41 }
@@ -84,9 +86,9 @@ impl Sort {
         }
     }
 
-    // How long after a packet it arrives once more, and how long one is held back.
-    fn again(self) -> u64
-        ensures value { result ≡ again self }
+    // How long after a packet it arrives once more.
+    fn repeat_delay(self) -> u64
+        ensures value { result ≡ repeat_delay self }
         ensures below { result < 2 ^ 10 }
     {
         match self {
@@ -95,8 +97,9 @@ impl Sort {
         }
     }
 
-    fn held_back(self) -> u64
-        ensures value { result ≡ held_back self }
+    // How long a packet is held back.
+    fn holding_delay(self) -> u64
+        ensures value { result ≡ holding_delay self }
         ensures below { result < 2 ^ 10 }
     {
         match self {
@@ -105,35 +108,41 @@ impl Sort {
         }
     }
 
-    // What arrives of the packet of a number that was sent at a time.
+    /// What arrives of the packet of a number that was sent at a time.
     pub fn deliveries(self, number: usize, sent: Time) -> [Option<Delivery>; 2]
         ensures { result ≡ deliveries self number sent }
     {
         let time = self.arrival(sent);
-        match self.fate(number) {
-            Fate::Lost => [None, None],
-            Fate::Arrives => [at(State::Sound, time), None],
-            Fate::Twice => [
-                at(State::Sound, time),
-                at(State::Sound, time + self.again()),
+        match self.treatment(number) {
+            Treatment::Lost => [None, None],
+            Treatment::Arrives => [delivery_at(Condition::Sound, time), None],
+            Treatment::Twice => [
+                delivery_at(Condition::Sound, time),
+                delivery_at(Condition::Sound, time + self.repeat_delay()),
             ],
-            Fate::HeldBack => [at(State::Sound, time + self.held_back()), None],
-            Fate::Spoiled => [
-                at(State::Spoiled, time),
-                at(State::Sound, time + AFTER_SPOILED),
+            Treatment::HeldBack => [
+                delivery_at(Condition::Sound, time + self.holding_delay()),
+                None,
             ],
-            Fate::WithForeign => [at(State::Sound, time), at(State::Foreign, time)],
+            Treatment::Spoiled => [
+                delivery_at(Condition::Spoiled, time),
+                delivery_at(Condition::Sound, time + AFTER_SPOILED),
+            ],
+            Treatment::WithForeign => [
+                delivery_at(Condition::Sound, time),
+                delivery_at(Condition::Foreign, time),
+            ],
         }
     }
 }
 
-fn at(state: State, time: u64) -> Option<Delivery>
-    ensures { result ≡ at state time }
+fn delivery_at(condition: Condition, time: u64) -> Option<Delivery>
+    ensures { result ≡ delivery_at condition time }
 {
-    Some(Delivery { time, state })
+    Some(Delivery { time, condition })
 }
 
-// A time of the near end's clock, on the far end's.
+/// A time of the near end's clock, on the far end's.
 pub fn far_time(time: u64) -> u64
     ensures { result ≡ far_time time }
 {
