@@ -1,68 +1,69 @@
-// A call, by its words. The first says what is asked.
+//! A call, by its words. The first says what is asked.
 use profile::{Entry, Example};
+use std::alloc::{AllocError, Global};
+use text::entry::entry_of;
+use text::hex::{Letters, octets_of};
+use text::number::number;
 
-// (A time past the last, and octets that are malformed, are found where they are used.)
-#[derive(Clone, Copy)]
-pub enum Call<'a> {
-    // `new`: all streams begin anew, and labels are stamps
+/// A call. (A time past the last is found where it is used.)
+#[derive(Drop)]
+pub enum Call {
+    /// `new`: all streams begin anew, and labels are stamps.
     New,
-    // `profile NAME`: the stream of labels begins anew, with those of an example
+    /// `profile NAME`: the stream of labels begins anew, with those of an example.
     Profile(Example),
-    // `entry FIRST LAST LENGTH PACKET_TIME INTERVAL`: the same, with those of a profile of this entry alone
+    /// `entry FIRST LAST LENGTH PACKET_TIME INTERVAL`: the same, with those of a profile of this entry alone.
     Entry(Entry),
-    // `unit MS`: the same, with the span as it is, and labels that count so many milliseconds
+    /// `unit MS`: the same, with the span as it is, and labels that count so many milliseconds.
     Unit(u16),
-    Arrives { time: u64, packet: Packet<'a> },
-    // `force digit`: which digit is in force
+    Arrives { time: u64, packet: Packet },
+    /// `force digit`: which digit is in force.
     DigitInForce,
-    // `force cas`: which signalling bits are in force
+    /// `force cas`: which signalling bits are in force.
     CasInForce,
 }
 
-// What arrives, on the stream that its first word names.
-#[derive(Clone, Copy)]
-pub enum Packet<'a> {
-    // `label TIME LABEL`
+/// What arrives, on the stream that its first word names.
+#[derive(Drop)]
+pub enum Packet {
+    /// `label TIME LABEL`
     Label(u16),
-    // `digit TIME OCTETS`, two hexadecimal digits for each octet, and `-` for none
-    Digit(&'a str),
-    // `cas TIME OCTETS`
-    Cas(&'a str),
+    /// `digit TIME OCTETS`, two hexadecimal digits for each octet, and `-` for none.
+    Digit(Vec<u8>),
+    /// `cas TIME OCTETS`
+    Cas(Vec<u8>),
 }
 
-impl<'a> Call<'a> {
-    // `None` where the words are no call, or a number is out of its range.
-    pub fn of(words: &[&'a str]) -> Option<Call<'a>> {
+impl Call {
+    /// `None` where the words are no call, or a number is out of its range.
+    pub fn of(alloc: Global, words: &[&str]) -> Result<Option<Call>, AllocError> {
+        match words {
+            ["digit", time, octets] => {
+                let octets = octets_of(alloc, Letters::Upper, octets)?;
+                Ok(octets.and_then(|octets| Call::arrival(time, Packet::Digit(octets))))
+            }
+            ["cas", time, octets] => {
+                let octets = octets_of(alloc, Letters::Upper, octets)?;
+                Ok(octets.and_then(|octets| Call::arrival(time, Packet::Cas(octets))))
+            }
+            words => Ok(Call::without_octets(words)),
+        }
+    }
+
+    fn arrival(time: &str, packet: Packet) -> Option<Call> {
+        let time = number::<u64>(time)?;
+        Some(Call::Arrives { time, packet })
+    }
+
+    fn without_octets(words: &[&str]) -> Option<Call> {
         match words {
             ["new"] => Some(Call::New),
             ["profile", name] => Some(Call::Profile(name.parse::<Example>().ok()?)),
-            ["entry", first, last, length, packet_time, interval] => Some(Call::Entry(Entry {
-                index: None,
-                format: 0,
-                first: first.parse::<u16>().ok()?,
-                last: last.parse::<u16>().ok()?,
-                length: length.parse::<u16>().ok()?,
-                packet_time: packet_time.parse::<u32>().ok()?,
-                interval: interval.parse::<u16>().ok()?,
-            })),
-            ["unit", ms] => Some(Call::Unit(ms.parse::<u16>().ok()?)),
+            ["entry", words @ ..] => Some(Call::Entry(entry_of(None, 0, words)?)),
+            ["unit", ms] => Some(Call::Unit(number::<u16>(ms)?)),
+            ["label", time, label] => Call::arrival(time, Packet::Label(number::<u16>(label)?)),
             ["force", "digit"] => Some(Call::DigitInForce),
             ["force", "cas"] => Some(Call::CasInForce),
-            [stream, time, text] => Some(Call::Arrives {
-                time: time.parse::<u64>().ok()?,
-                packet: Packet::of(stream, text)?,
-            }),
-            _ => None,
-        }
-    }
-}
-
-impl<'a> Packet<'a> {
-    fn of(stream: &str, text: &'a str) -> Option<Packet<'a>> {
-        match stream {
-            "label" => Some(Packet::Label(text.parse::<u16>().ok()?)),
-            "digit" => Some(Packet::Digit(text)),
-            "cas" => Some(Packet::Cas(text)),
             _ => None,
         }
     }

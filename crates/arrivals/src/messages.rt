@@ -1,4 +1,4 @@
-// The calls on a message stream.
+//! The calls on a message stream.
 ghost use Rattle.std.specs.Prelude.{◌≡◌};
 ghost use Rattle.arrivals.specs.Answers.{hear};
 
@@ -6,7 +6,7 @@ use placing::{MessageNews, Receiver, Told};
 use refusal::{Refusal, Time};
 use type3::{Kind, read_payload};
 
-// Octets arrive at a time: they are read, and what they say is received.
+/// Octets arrive at a time: they are read, and what they say is received.
 pub fn hear<K: Kind>(
     receiver: &mut Receiver<K>,
     time: Time,

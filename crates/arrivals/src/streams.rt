@@ -1,93 +1,115 @@
-// The receiving streams of one trunk.
-ghost use Rattle.std.specs.Prelude.{◌≡◌, None};
-ghost use Rattle.placing.specs.Receiving.{new_receiver};
-ghost use Rattle.arrivals.specs.Apart.{OnlyLabels, OnlyThatOf};
+//! The receiving streams of one trunk.
+ghost use Rattle.std.specs.Prelude.{◌≡◌, IfOk, IfErr};
+ghost use Rattle.profile.specs.declared.load.LoadError.TheVariants.{Memory};
+ghost use Rattle.arrivals.specs.Answers.{new_streams, begin, load, arrive_at, arrive, answer};
 
 use crate::answer::Answer;
 use crate::call::{Call, Packet};
-use crate::labels::Labels;
 use crate::messages::hear;
-use examples::hex::{Letters, octets_of};
 use kinds::{Cas, Digits};
-use placing::{Labelling, Receiver};
-use profile::{LoadError, Profile};
+use placing::{Labelling, Receiver, Stream};
+use profile::{Entry, LoadError, Profile};
 use refusal::Time;
 use std::alloc::Global;
+use text::refusals::loaded_or_refused;
 
+/// A stream of labels, as that of audio, and two of messages.
 #[derive(Drop)]
 pub struct Streams {
-    labels: Labels,
+    labelling: Labelling,
+    labels: Stream,
     digits: Receiver<Digits>,
     cas: Receiver<Cas>,
 }
 
 impl Streams {
+    /// New streams, on which labels are stamps.
     pub fn new() -> Streams
-        ensures labels { result.labels ≡ record { labelling = record { span = 16384; unit = 1 }; stream = None } }
-        ensures digits { result.digits ≡ new_receiver }
-        ensures cas { result.cas ≡ new_receiver }
+        ensures { result ≡ new_streams }
     {
         Streams {
-            labels: Labels::new(Labelling::of_stamps()),
+            labelling: Labelling::of_stamps(),
+            labels: Stream::new(),
             digits: Receiver::<Digits>::new(),
             cas: Receiver::<Cas>::new(),
         }
     }
 
-    pub fn answer(&mut self, heap: Global, call: Call) -> anyhow::Result<Answer> {
+    /// A call: its answer. The error is want of memory.
+    pub fn answer(&mut self, alloc: Global, call: &Call) -> Result<Answer, LoadError>
+        ensures value { IfOk result (λ a. a ≡ (answer self.old call.now).0) }
+        ensures after { IfOk result (λ a. self.new ≡ (answer self.old call.now).1) }
+        ensures memory { IfErr result (λ e. e ≡ Memory) }
+    {
         match call {
             Call::New => {
                 *self = Streams::new();
                 Ok(Answer::New)
             }
-            Call::Profile(example) => self.begin(example.load(heap)),
-            Call::Entry(entry) => self.begin(Profile::load(heap, &[entry])),
-            Call::Unit(unit) => {
-                self.labels = self.labels.with_unit(unit);
-                Ok(self.labels.told())
-            }
-            Call::Arrives { time, packet } => {
-                let Some(time) = Time::new(time) else {
-                    return Ok(Answer::BadLine);
-                };
-                self.arrives(heap, time, packet)
-            }
+            Call::Profile(example) => self.load(alloc, example.entries()),
+            Call::Entry(entry) => self.load(alloc, &[*entry]),
+            Call::Unit(unit) => Ok(self.begin(Labelling {
+                span: self.labelling.span,
+                unit: *unit,
+            })),
+            Call::Arrives { time, packet } => Ok(self.arrive_at(*time, packet)),
             Call::DigitInForce => Ok(Answer::DigitInForce(self.digits.in_force())),
             Call::CasInForce => Ok(Answer::CasInForce(self.cas.in_force())),
         }
     }
 
-    // The stream of labels begins anew, with those of a profile.
-    fn begin(&mut self, loaded: Result<Profile, LoadError>) -> anyhow::Result<Answer>
-        ensures { OnlyLabels self.old self.new }
+    // The stream of labels begins anew, with those of a profile of these entries.
+    fn load(&mut self, alloc: Global, offered: &[Entry]) -> Result<Answer, LoadError>
+        ensures value { IfOk result (λ a. a ≡ (load self.old offered.now).0) }
+        ensures after { IfOk result (λ a. self.new ≡ (load self.old offered.now).1) }
+        ensures memory { IfErr result (λ e. e ≡ Memory) }
     {
-        match loaded {
-            Ok(profile) => {
-                self.labels = Labels::new(Labelling::of_profile(&profile));
-                Ok(self.labels.told())
-            }
-            Err(LoadError::Refused(refusal)) => Ok(Answer::Refused(refusal)),
-            Err(LoadError::Memory) => Err(LoadError::Memory.into()),
+        match loaded_or_refused(Profile::load(alloc, offered))? {
+            Ok(profile) => Ok(self.begin(Labelling::of_profile(&profile))),
+            Err(refusal) => Ok(Answer::Refused(refusal)),
         }
     }
 
-    fn arrives(&mut self, heap: Global, time: Time, packet: Packet) -> anyhow::Result<Answer>
-        ensures { OnlyThatOf packet.entry self.old self.new }
+    // The stream of labels begins anew, with such labels.
+    fn begin(&mut self, labelling: Labelling) -> Answer
+        ensures value { result ≡ (begin self.old labelling).0 }
+        ensures after { self.new ≡ (begin self.old labelling).1 }
+    {
+        self.labelling = labelling;
+        self.labels = Stream::new();
+        Answer::Begun {
+            span: labelling.span.get(),
+            unit: labelling.unit,
+        }
+    }
+
+    fn arrive_at(&mut self, time: u64, packet: &Packet) -> Answer
+        ensures value { result ≡ (arrive_at self.old time packet.now).0 }
+        ensures after { self.new ≡ (arrive_at self.old time packet.now).1 }
+    {
+        match Time::new(time) {
+            Some(time) => self.arrive(time, packet),
+            None => Answer::BadLine,
+        }
+    }
+
+    fn arrive(&mut self, time: Time, packet: &Packet) -> Answer
+        ensures value { result ≡ (arrive self.old time packet.now).0 }
+        ensures after { self.new ≡ (arrive self.old time packet.now).1 }
     {
         match packet {
-            Packet::Label(label) => Ok(self.labels.answer(time, label)),
-            Packet::Digit(text) => {
-                let octets = octets_of(heap, Letters::Upper, text)?;
-                Ok(octets.map_or(Answer::BadLine, |octets| {
-                    Answer::of_digit(hear(&mut self.digits, time, octets.as_slice()))
-                }))
-            }
-            Packet::Cas(text) => {
-                let octets = octets_of(heap, Letters::Upper, text)?;
-                Ok(octets.map_or(Answer::BadLine, |octets| {
-                    Answer::of_cas(hear(&mut self.cas, time, octets.as_slice()))
-                }))
-            }
+            Packet::Label(label) => self
+                .labels
+                .place(self.labelling, *label, time)
+                .map_or_else(Answer::Refused, Answer::Label),
+            Packet::Digit(octets) => hear(&mut self.digits, time, octets.as_slice()).map_or_else(
+                Answer::Refused,
+                Answer::Digit,
+            ),
+            Packet::Cas(octets) => hear(&mut self.cas, time, octets.as_slice()).map_or_else(
+                Answer::Refused,
+                Answer::Cas,
+            ),
         }
     }
 }

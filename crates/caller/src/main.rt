@@ -1,10 +1,9 @@
-// A host's program in short: an end is set up, started, used, stopped and started again.
+//! A host's program in short: an end is set up, started, used, stopped and started again.
 #![tactic(auto)]
 
-use examples::hex::Hex;
 use kinds::{Cas, CasBits, Digit, Digits};
-use placing::Told;
 use profile::Example;
+use text::hex::Hex;
 use trunk::{Arrived, InService, SetUp, Which};
 use type3::{Either, LONGEST, TYPE_3_UUI};
 
@@ -22,9 +21,9 @@ const BITS: CasBits = CasBits {
 };
 
 fn main(rt: HostRuntime) -> anyhow::Result<()> {
-    let heap = rt.alloc();
-    let mut early = SetUp::new(heap)?;
-    early.load(heap, Example::B.entries())?;
+    let alloc = rt.alloc();
+    let mut early = SetUp::new(alloc)?;
+    early.load(alloc, Example::B.entries())?;
     let mut busy = early.start::<Digits, Cas>();
     busy.event(1000, Either::First(Digit::of_key('5', LEVEL)?))?;
     for time in 1000..1020 {
@@ -35,7 +34,7 @@ fn main(rt: HostRuntime) -> anyhow::Result<()> {
     tell_arrival(&rt, &mut busy, 1003, &[0x00, 0x00, 0x0a, 0x05, 0x0a, 0xeb])?;
     tell_arrival(&rt, &mut busy, 1004, &[0x00, 0x00, 0x0a, 0x05, 0x0a, 0xea])?;
     let mut end = busy.stop();
-    end.load(heap, Example::C.entries())?;
+    end.load(alloc, Example::C.entries())?;
     let mut end = end.start::<Digits, Cas>();
     end.event(0, Either::Second(BITS))?;
     tell_due(&rt, &mut end, 0)?;
@@ -62,8 +61,8 @@ fn tell_arrival(
     octets: &[u8],
 ) -> anyhow::Result<()> {
     match end.arrive(time, TYPE_3_UUI, octets) {
-        Ok(Arrived::First(Told::News(news))) => println!(rt; "digit {}", news.message.code())?,
-        Ok(Arrived::Second(Told::News(news))) => println!(rt; "bits {}", news.message.octet())?,
+        Ok(Arrived::First(news)) => println!(rt; "digit {}", news.message.code())?,
+        Ok(Arrived::Second(news)) => println!(rt; "bits {}", news.message.octet())?,
         Ok(_) => println!(rt; "no news")?,
         Err(refusal) => println!(rt; "{refusal}")?,
     }

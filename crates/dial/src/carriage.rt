@@ -1,8 +1,8 @@
-// The network between the two ends: what arrives of the packets that were sent, and when.
-use crate::script::{Asked, time_of};
-use dialling::fates::{Delivery, Sort, State, far_time};
+//! The network between the two ends: what arrives of the packets that were sent, and when.
+use crate::script::{DialTurn, time_of};
+use dialling::deliveries::{Condition, Delivery, Sort, far_time};
 use dialling::heard::Reply;
-use dialling::octets::{copied, spoiled};
+use dialling::octets::{copy_of, spoiled_copy_of};
 use network::{Answer, Call, Side, Turn};
 use refusal::Time;
 use std::alloc::{AllocError, Global};
@@ -10,7 +10,7 @@ use type3::{LONGEST, TYPE_3_UUI, Written};
 
 // A packet that a call made, by the place of the call.
 #[derive(Clone, Copy)]
-struct Sent<'a> {
+struct SentPacket<'a> {
     call: usize,
     sort: Sort,
     time: Time,
@@ -18,9 +18,9 @@ struct Sent<'a> {
     octets: &'a [u8],
 }
 
-// A delivery, of the packet of a call.
+/// What arrives of the packet of a call.
 #[derive(Drop)]
-pub struct Parcel {
+pub struct Arrival {
     call: usize,
     delivery: Delivery,
     uui: u16,
@@ -29,18 +29,18 @@ pub struct Parcel {
 
 const FOREIGN: u16 = 27;
 
-impl<'a> Sent<'a> {
+impl<'a> SentPacket<'a> {
     // The packet that a call made, if it made one.
-    fn of(call: usize, turn: &Asked<'a>, answer: &'a Reply) -> Option<Sent<'a>> {
+    fn of(call: usize, turn: &DialTurn<'a>, answer: &'a Reply) -> Option<SentPacket<'a>> {
         match (turn.call, answer) {
-            (Call::Audio { time, payload, .. }, Answer::Audio(Ok(uui))) => Some(Sent {
+            (Call::Audio { time, payload, .. }, Answer::Audio(Ok(uui))) => Some(SentPacket {
                 call,
                 sort: Sort::Audio,
                 time: Time::new(time)?,
                 uui: *uui,
                 octets: payload,
             }),
-            (Call::Due { time, .. }, Answer::Due(Ok(Some(octets)))) => Some(Sent {
+            (Call::Due { time, .. }, Answer::Due(Ok(Some(octets)))) => Some(SentPacket {
                 call,
                 sort: Sort::Message,
                 time: Time::new(time)?,
@@ -51,13 +51,13 @@ impl<'a> Sent<'a> {
         }
     }
 
-    fn parcel(&self, delivery: Delivery) -> Parcel {
-        let (uui, octets) = match delivery.state {
-            State::Sound => (self.uui, copied(self.octets)),
-            State::Spoiled => (self.uui, spoiled(self.octets)),
-            State::Foreign => (FOREIGN, copied(&[])),
+    fn arrival(&self, delivery: Delivery) -> Arrival {
+        let (uui, octets) = match delivery.condition {
+            Condition::Sound => (self.uui, copy_of(self.octets)),
+            Condition::Spoiled => (self.uui, spoiled_copy_of(self.octets)),
+            Condition::Foreign => (FOREIGN, copy_of(&[])),
         };
-        Parcel {
+        Arrival {
             call: self.call,
             delivery,
             uui,
@@ -66,31 +66,35 @@ impl<'a> Sent<'a> {
     }
 }
 
-// What the network makes of the packets that these calls made, in the order in which it arrives.
-pub fn carry(heap: Global, calls: &[Asked], answers: &[Reply]) -> Result<Vec<Parcel>, AllocError> {
-    let mut parcels = Vec::new(heap);
+/// What the network makes of the packets that these calls made, in the order in which it arrives.
+pub fn carry(
+    alloc: Global,
+    calls: &[DialTurn],
+    answers: &[Reply],
+) -> Result<Vec<Arrival>, AllocError> {
+    let mut arrivals = Vec::new(alloc);
     for sort in [Sort::Message, Sort::Audio] {
-        carry_sort(sort, calls, answers, &mut parcels)?;
+        carry_sort(sort, calls, answers, &mut arrivals)?;
     }
-    parcels.sort_by_key(|parcel| (parcel.delivery.time, parcel.call))?;
-    Ok(parcels)
+    arrivals.sort_by_key(|arrival| (arrival.delivery.time, arrival.call))?;
+    Ok(arrivals)
 }
 
 // The packets of a sort are numbered in the order in which they are sent.
 fn carry_sort(
     sort: Sort,
-    calls: &[Asked],
+    calls: &[DialTurn],
     answers: &[Reply],
-    parcels: &mut Vec<Parcel>,
+    arrivals: &mut Vec<Arrival>,
 ) -> Result<(), AllocError> {
     let mut number = 0usize;
     for (call, (turn, answer)) in calls.iter().zip(answers).enumerate() {
-        let Some(packet) = Sent::of(call, turn, answer) else {
+        let Some(packet) = SentPacket::of(call, turn, answer) else {
             continue;
         };
         if packet.sort == sort {
             for delivery in sort.deliveries(number, packet.time).into_iter().flatten() {
-                parcels.push(packet.parcel(delivery))?;
+                arrivals.push(packet.arrival(delivery))?;
             }
             number = number.saturating_add(1);
         }
@@ -98,39 +102,39 @@ fn carry_sort(
     Ok(())
 }
 
-// The calls of the near end, and between them what arrives at the far end. A call comes before what arrives at its time.
-pub fn merged<'a>(
-    heap: Global,
-    calls: &[Asked<'a>],
-    parcels: &'a [Parcel],
-) -> Result<Vec<Asked<'a>>, AllocError> {
-    let mut turns = Vec::new(heap);
+/// The calls of the near end, and between them what arrives at the far end. A call comes before what arrives at its time.
+pub fn merge<'a>(
+    alloc: Global,
+    calls: &[DialTurn<'a>],
+    arrivals: &'a [Arrival],
+) -> Result<Vec<DialTurn<'a>>, AllocError> {
+    let mut turns = Vec::new(alloc);
     // where each call of the near end stands in the merged list
-    let mut places = Vec::new(heap);
-    let mut coming = parcels;
+    let mut places = Vec::new(alloc);
+    let mut coming = arrivals;
     for turn in calls {
         let time = time_of(turn);
-        let count = coming.partition_point(|parcel| parcel.delivery.time < time);
+        let count = coming.partition_point(|arrival| arrival.delivery.time < time);
         let (before, rest) = coming.split_at(count);
-        for parcel in before {
-            turns.push(parcel.arriving(places.as_slice()))?;
+        for arrival in before {
+            turns.push(arrival.turn(places.as_slice()))?;
         }
         coming = rest;
         places.push(turns.len())?;
         turns.push(*turn)?;
     }
-    for parcel in coming {
-        turns.push(parcel.arriving(places.as_slice()))?;
+    for arrival in coming {
+        turns.push(arrival.turn(places.as_slice()))?;
     }
     Ok(turns)
 }
 
-impl Parcel {
+impl Arrival {
     // Its arrival at the far end, where the calls of the near end stand at these places.
-    fn arriving(&self, places: &[usize]) -> Asked<'_> {
-        let copies = match self.delivery.state {
-            State::Sound | State::Spoiled => places.get(self.call).copied(),
-            State::Foreign => None,
+    fn turn(&self, places: &[usize]) -> DialTurn<'_> {
+        let copies = match self.delivery.condition {
+            Condition::Sound | Condition::Spoiled => places.get(self.call).copy_of(),
+            Condition::Foreign => None,
         };
         Turn {
             side: Side::Far,

@@ -1,20 +1,20 @@
-// One call from its beginning to its end, over a network that loses, repeats, delays, reorders and spoils: what was sent, what
-// arrived, how each arrival was answered, and what the far end made of it.
+//! One call from its beginning to its end, over a network that loses, repeats, delays, reorders and spoils: what was sent, what
+//! arrived, how each arrival was answered, and what the far end made of it.
 #![tactic(auto)]
 
-use carriage::{carry, merged};
+use carriage::{carry, merge};
 use dialling::heard::tones_heard;
 use dialling::tone::Tone;
-use examples::hex::Hex;
 use kinds::{Cas, Digits};
 use network::{Run, Side, simulate};
 use profile::LoadError;
-use script::{Asked, Script};
+use script::{DialTurn, Script};
 use show::{show_tones, show_turns};
 use std::alloc::Global;
 use std::env;
+use text::hex::Hex;
 use trunk::{SetUp, Which};
-use words::{Carried, Said};
+use words::{MessageText, PayloadText};
 
 mod carriage;
 mod script;
@@ -31,7 +31,7 @@ const HOSTILE: [&[u8]; 2] = [
 ];
 
 fn main(rt: HostRuntime) -> anyhow::Result<()> {
-    let heap = rt.alloc();
+    let alloc = rt.alloc();
     let mut args = env::args(&rt)?;
     let _program = args.next();
     let number = args.next();
@@ -40,26 +40,26 @@ fn main(rt: HostRuntime) -> anyhow::Result<()> {
         number.as_ref().map_or(NUMBER, |number| number.as_str()),
     )?;
     // what the near end sends, and then the same with what arrives of it
-    let calls = script.calls(heap)?;
-    let sent = played(heap, calls.as_slice())?;
-    let parcels = carry(heap, calls.as_slice(), sent.answers.as_slice())?;
-    let turns = merged(heap, calls.as_slice(), parcels.as_slice())?;
-    let run = played(heap, turns.as_slice())?;
+    let calls = script.calls(alloc)?;
+    let sent = play(alloc, calls.as_slice())?;
+    let arrivals = carry(alloc, calls.as_slice(), sent.answers.as_slice())?;
+    let turns = merge(alloc, calls.as_slice(), arrivals.as_slice())?;
+    let run = play(alloc, turns.as_slice())?;
     show_call(&rt, script.tones.as_slice(), turns.as_slice(), &run)
 }
 
 // A list of calls on two new ends.
-fn played(heap: Global, turns: &[Asked]) -> Result<Run<Digits, Cas>, LoadError> {
-    let near = SetUp::new(heap)?;
-    let far = SetUp::new(heap)?;
-    Ok(simulate::<Digits, Cas>(heap, near, far, turns)?)
+fn play(alloc: Global, turns: &[DialTurn]) -> Result<Run<Digits, Cas>, LoadError> {
+    let near = SetUp::new(alloc)?;
+    let far = SetUp::new(alloc)?;
+    Ok(simulate::<Digits, Cas>(alloc, near, far, turns)?)
 }
 
 // The call, in lines.
 fn show_call(
     rt: &HostRuntime,
     dialled: &[Tone],
-    turns: &[Asked],
+    turns: &[DialTurn],
     run: &Run<Digits, Cas>,
 ) -> anyhow::Result<()> {
     let answers = run.answers.as_slice();
@@ -74,11 +74,11 @@ fn show_call(
     };
     println!(rt; "{not}heard as dialled")?;
     match run.ends.end(Side::Far).in_force(Which::Second) {
-        Some(bits) => println!(rt; "in force at the far end: {}", Said(bits))?,
+        Some(bits) => println!(rt; "in force at the far end: {}", MessageText(bits))?,
         None => println!(rt; "in force at the far end: nothing")?,
     }
     for octets in HOSTILE {
-        println!(rt; "octets {}: {}", Hex(octets), Carried(octets))?;
+        println!(rt; "octets {}: {}", Hex(octets), PayloadText(octets))?;
     }
     println!(rt; "{counts}")?;
     Ok(())

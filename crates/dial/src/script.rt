@@ -1,15 +1,17 @@
-// What the caller does, and the calls on the near end that come of it. Times are in milliseconds of its clock.
-use dialling::tone::{Tone, held, pause_before};
-use kinds::{CasBits, Digit, System, TONE_OFF};
+//! What the caller does, and the calls on the near end that come of it. Times are in milliseconds of its clock.
+use dialling::tone::{Tone, holding_time, pause_before};
+use kinds::{CasBits, Digit};
 use network::{Call, Side, Turn};
 use std::alloc::{AllocError, Global};
+use text::digit::{key_digit, tone_off};
 use trunk::Which;
 use type3::{Either, LONGEST};
 
+/// A message of one of the two kinds.
 pub type Message = Either<Digit, CasBits>;
 
-// A call, with octets that are lent.
-pub type Asked<'a> = Turn<&'a [u8], Message>;
+/// A call on one of the ends, with octets that are lent.
+pub type DialTurn<'a> = Turn<&'a [u8], Message>;
 
 // An event that the caller brings about.
 #[derive(Clone, Copy)]
@@ -18,9 +20,10 @@ struct Step {
     message: Message,
 }
 
+/// What happens in the call, by the near end's clock in milliseconds.
 #[derive(Drop)]
 pub struct Script {
-    // those that are dialled
+    /// Those that are dialled.
     pub tones: Vec<Tone>,
     steps: Vec<Step>,
     // the start of each talk spurt
@@ -41,9 +44,6 @@ const ON_HOOK: Message = Either::Second(CasBits {
     c: false,
     d: false,
 });
-
-// In dBm0.
-const LEVEL: i8 = -10;
 
 const MOST_KEYS: usize = 64;
 
@@ -70,9 +70,10 @@ const PACKET_TIME: usize = 5;
 const SPURT: u64 = 60;
 
 impl Script {
+    /// The call to a number.
     pub fn of(rt: &HostRuntime, number: &str) -> anyhow::Result<Script> {
         let tones = tones_of(rt, number)?;
-        let off = Either::First(Digit::new(System::Dtmf.into(), TONE_OFF, LEVEL)?);
+        let off = Either::First(tone_off()?);
         let mut steps = Vec::new(rt.alloc());
         steps.push(Step {
             time: OFF_HOOK_TIME,
@@ -105,9 +106,9 @@ impl Script {
         })
     }
 
-    // The calls of the near end: at each fifth millisecond its events, audio, and what is due.
-    pub fn calls(&self, heap: Global) -> Result<Vec<Asked<'static>>, AllocError> {
-        let mut calls = Vec::new(heap);
+    /// The calls of the near end: at each fifth millisecond its events, audio, and what is due.
+    pub fn calls(&self, alloc: Global) -> Result<Vec<DialTurn<'static>>, AllocError> {
+        let mut calls = Vec::new(alloc);
         for time in (0..=self.end).step_by(PACKET_TIME) {
             for step in self.steps.iter().filter(|step| step.time == time) {
                 let message = step.message;
@@ -137,7 +138,8 @@ impl Script {
     }
 }
 
-pub fn time_of(turn: &Asked) -> u64 {
+/// The time of a call, on its end's clock.
+pub fn time_of(turn: &DialTurn) -> u64 {
     match turn.call {
         Call::Audio { time, .. }
         | Call::Event { time, .. }
@@ -146,7 +148,7 @@ pub fn time_of(turn: &Asked) -> u64 {
     }
 }
 
-fn near(call: Call<&'static [u8], Message>) -> Asked<'static> {
+fn near(call: Call<&'static [u8], Message>) -> DialTurn<'static> {
     Turn {
         side: Side::Near,
         call,
@@ -158,7 +160,7 @@ fn tones_of(rt: &HostRuntime, number: &str) -> anyhow::Result<Vec<Tone>> {
     let mut tones = Vec::new(rt.alloc());
     for character in number.chars() {
         let place = tones.len();
-        match Digit::of_key(character, LEVEL) {
+        match key_digit(character) {
             Err(refusal) => println!(rt; "key {character}: {refusal}")?,
             Ok(_) if place == MOST_KEYS => {
                 println!(rt; "only the first {MOST_KEYS} keys are dialled")?;
@@ -167,7 +169,7 @@ fn tones_of(rt: &HostRuntime, number: &str) -> anyhow::Result<Vec<Tone>> {
             Ok(key) => tones.push(Tone {
                 key,
                 pause: pause_before(place),
-                held: held(place),
+                held: holding_time(place),
             })?,
         }
     }

@@ -1,11 +1,11 @@
-// The lines of the call, and how often it came to what.
-use crate::script::{Asked, time_of};
-use crate::words::{Carried, Heard, Packet, Said};
+//! The lines of the call, and how often it came to what.
+use crate::script::{DialTurn, time_of};
+use crate::words::{ArrivalText, MessageText, PacketText, PayloadText};
 use dialling::heard::Reply;
 use dialling::tone::Tone;
 use kinds::{CasBits, Digit};
 use network::{Answer, Call, Side};
-use placing::{Class, Told};
+use placing::Class;
 use std::fmt;
 use trunk::Arrived;
 use type3::{Either, TYPE_3_UUI};
@@ -35,6 +35,7 @@ const NEWS: &[Outcome] = &[
 
 const NO_NEWS: &[Outcome] = &[Outcome::Repeat, Outcome::Late, Outcome::Refused];
 
+/// How often it came to what.
 #[derive(Drop)]
 pub struct Counts {
     outcomes: Vec<Outcome>,
@@ -91,21 +92,18 @@ fn outcome_of(answer: &Reply, lost: bool) -> Option<Outcome> {
 
 fn outcome_of_arrived(arrived: &Arrived<Digit, CasBits>) -> Outcome {
     match arrived {
-        Arrived::Audio(Told::News(_)) => Outcome::Audio,
-        Arrived::First(Told::News(news)) => Outcome::Message(news.class),
-        Arrived::Second(Told::News(news)) => Outcome::Message(news.class),
-        Arrived::Audio(Told::Repeat)
-        | Arrived::First(Told::Repeat)
-        | Arrived::Second(Told::Repeat) => Outcome::Repeat,
-        Arrived::Audio(Told::Late) | Arrived::First(Told::Late) | Arrived::Second(Told::Late) =>
-            Outcome::Late,
+        Arrived::Audio(_) => Outcome::Audio,
+        Arrived::First(news) => Outcome::Message(news.class),
+        Arrived::Second(news) => Outcome::Message(news.class),
+        Arrived::Repeat(_) => Outcome::Repeat,
+        Arrived::Late(_) => Outcome::Late,
     }
 }
 
 // A call and its answer, in a line.
 #[derive(Drop)]
 struct Line<'a> {
-    turn: &'a Asked<'a>,
+    turn: &'a DialTurn<'a>,
     answer: &'a Reply,
     // no copy of its packet arrives
     lost: bool,
@@ -129,10 +127,10 @@ impl<'a> Line<'a> {
         let lost = if self.lost { ", lost" } else { "" };
         match (self.turn.call, self.answer) {
             (Call::Event { message, .. }, Answer::Event(Ok(()))) => {
-                write!(f, "event  {}", Said(message))
+                write!(f, "event  {}", MessageText(message))
             }
             (Call::Audio { place, payload, .. }, Answer::Audio(Ok(uui))) => {
-                let packet = Packet {
+                let packet = PacketText {
                     uui: *uui,
                     octets: payload,
                 };
@@ -140,15 +138,15 @@ impl<'a> Line<'a> {
             }
             (_, Answer::Due(Ok(Some(octets)))) => {
                 let octets = octets.as_slice();
-                let packet = Packet {
+                let packet = PacketText {
                     uui: TYPE_3_UUI,
                     octets,
                 };
-                write!(f, "sends  {packet}: {}{lost}", Carried(octets))
+                write!(f, "sends  {packet}: {}{lost}", PayloadText(octets))
             }
             (Call::Arrive { uui, octets, .. }, Answer::Arrive(answer)) => {
-                let packet = Packet { uui, octets };
-                write!(f, "hears  {packet}: {}", Heard(answer))
+                let packet = PacketText { uui, octets };
+                write!(f, "hears  {packet}: {}", ArrivalText(answer))
             }
             (
                 _,
@@ -162,15 +160,19 @@ impl<'a> Line<'a> {
 }
 
 // Whether a call is the arrival of a copy of what the call at a place made.
-fn is_copy(turn: &Asked, place: usize) -> bool {
+fn is_copy(turn: &DialTurn, place: usize) -> bool {
     match turn.call {
         Call::Arrive { copies, .. } => copies == Some(place),
         _ => false,
     }
 }
 
-// Each call that came to something, in its line.
-pub fn show_turns(rt: &HostRuntime, turns: &[Asked], answers: &[Reply]) -> anyhow::Result<Counts> {
+/// Prints each call that came to something, in its line.
+pub fn show_turns(
+    rt: &HostRuntime,
+    turns: &[DialTurn],
+    answers: &[Reply],
+) -> anyhow::Result<Counts> {
     let mut outcomes = Vec::new(rt.alloc());
     for (place, (turn, answer)) in turns.iter().zip(answers).enumerate() {
         if let Answer::Due(Ok(None)) = answer {
@@ -185,10 +187,10 @@ pub fn show_turns(rt: &HostRuntime, turns: &[Asked], answers: &[Reply]) -> anyho
     Ok(Counts { outcomes })
 }
 
-// The tones of a side, in a line each, with the pause before each.
+/// Prints the tones of a side, in a line each, with the pause before each.
 pub fn show_tones(rt: &HostRuntime, word: &str, tones: &[Tone]) -> anyhow::Result<()> {
     for tone in tones {
-        let key = Said(Either::First(tone.key));
+        let key = MessageText(Either::First(tone.key));
         let held = tone.held;
         let pause = tone.pause;
         println!(rt; "{word:7}  {key} for {held:>5} ms, after a pause of {pause:>5} ms")?;

@@ -1,18 +1,19 @@
-// Messages, packets and answers as text.
+//! Messages, packets and answers as text.
 use crate::script::Message;
-use examples::hex::Hex;
 use kinds::{Cas, CasBits, Digit, Digits, key_of};
-use placing::{MessageNews, Told};
+use placing::MessageNews;
 use refusal::Refusal;
 use std::fmt;
-use trunk::Arrived;
+use text::bits::FourDigits;
+use text::hex::Hex;
+use trunk::{Arrived, Stream, Which};
 use type3::{Either, Redundancy, TYPE_3_UUI, read_either};
 
-// A message.
+/// A message.
 #[derive(Drop)]
-pub struct Said(pub Message);
+pub struct MessageText(pub Message);
 
-impl fmt::Display for Said {
+impl fmt::Display for MessageText {
     fn fmt<W: fmt::Write>(&self, f: &mut fmt::Formatter<W>) -> fmt::Result {
         match self.0 {
             Either::First(digit) => match key_of(digit.code()) {
@@ -21,17 +22,17 @@ impl fmt::Display for Said {
             },
             Either::Second(bits) => {
                 let hook = if bits.a { "off-hook" } else { "on-hook" };
-                write!(f, "bits {:04b} ({hook})", bits.octet())
+                write!(f, "bits {} ({hook})", FourDigits(bits))
             }
         }
     }
 }
 
-// How a message was sent.
+/// How a message was sent.
 #[derive(Drop)]
-pub struct SentAs(pub Redundancy);
+pub struct RedundancyText(pub Redundancy);
 
-impl fmt::Display for SentAs {
+impl fmt::Display for RedundancyText {
     fn fmt<W: fmt::Write>(&self, f: &mut fmt::Formatter<W>) -> fmt::Result {
         match self.0.get() {
             3 => write!(f, "refresh"),
@@ -40,29 +41,34 @@ impl fmt::Display for SentAs {
     }
 }
 
-// What the octets of a packet carry.
+/// What the octets of a packet carry.
 #[derive(Drop)]
-pub struct Carried<'a>(pub &'a [u8]);
+pub struct PayloadText<'a>(pub &'a [u8]);
 
-impl<'a> fmt::Display for Carried<'a> {
+impl<'a> fmt::Display for PayloadText<'a> {
     fn fmt<W: fmt::Write>(&self, f: &mut fmt::Formatter<W>) -> fmt::Result {
         let (message, redundancy) = match read_either::<Digits, Cas>(self.0) {
             Ok(Either::First(payload)) => (Either::First(payload.message), payload.redundancy),
             Ok(Either::Second(payload)) => (Either::Second(payload.message), payload.redundancy),
             Err(refusal) => return write!(f, "{refusal}"),
         };
-        write!(f, "{}, {}", Said(message), SentAs(redundancy))
+        write!(
+            f,
+            "{}, {}",
+            MessageText(message),
+            RedundancyText(redundancy)
+        )
     }
 }
 
-// A packet: its octets are shown where it is of type 3, and otherwise their number.
+/// A packet: its octets are shown where it is of type 3, and otherwise their number.
 #[derive(Drop)]
-pub struct Packet<'a> {
+pub struct PacketText<'a> {
     pub uui: u16,
     pub octets: &'a [u8],
 }
 
-impl<'a> fmt::Display for Packet<'a> {
+impl<'a> fmt::Display for PacketText<'a> {
     fn fmt<W: fmt::Write>(&self, f: &mut fmt::Formatter<W>) -> fmt::Result {
         let uui = self.uui;
         if uui == TYPE_3_UUI {
@@ -73,14 +79,22 @@ impl<'a> fmt::Display for Packet<'a> {
     }
 }
 
-// The answer to an arrival.
-#[derive(Drop)]
-pub struct Heard<'a>(pub &'a Result<Arrived<Digit, CasBits>, Refusal>);
+fn stream_name(stream: Stream) -> &'static str {
+    match stream {
+        Stream::Audio => "audio",
+        Stream::Messages(Which::First) => "digits",
+        Stream::Messages(Which::Second) => "bits",
+    }
+}
 
-impl<'a> fmt::Display for Heard<'a> {
+/// The answer to an arrival.
+#[derive(Drop)]
+pub struct ArrivalText<'a>(pub &'a Result<Arrived<Digit, CasBits>, Refusal>);
+
+impl<'a> fmt::Display for ArrivalText<'a> {
     fn fmt<W: fmt::Write>(&self, f: &mut fmt::Formatter<W>) -> fmt::Result {
         match self.0 {
-            Ok(Arrived::Audio(Told::News(news))) => {
+            Ok(Arrived::Audio(news)) => {
                 let place = news.place;
                 let elapsed = news.moved.elapsed;
                 write!(
@@ -88,18 +102,10 @@ impl<'a> fmt::Display for Heard<'a> {
                     "news, audio of entry {place}, {elapsed} ms after the news before"
                 )
             }
-            Ok(Arrived::First(Told::News(news))) => {
-                message_news(news, Either::First(news.message), f)
-            }
-            Ok(Arrived::Second(Told::News(news))) => {
-                message_news(news, Either::Second(news.message), f)
-            }
-            Ok(Arrived::Audio(Told::Repeat)) => write!(f, "repeat, audio"),
-            Ok(Arrived::First(Told::Repeat)) => write!(f, "repeat, digits"),
-            Ok(Arrived::Second(Told::Repeat)) => write!(f, "repeat, bits"),
-            Ok(Arrived::Audio(Told::Late)) => write!(f, "late, audio"),
-            Ok(Arrived::First(Told::Late)) => write!(f, "late, digits"),
-            Ok(Arrived::Second(Told::Late)) => write!(f, "late, bits"),
+            Ok(Arrived::First(news)) => message_news(news, Either::First(news.message), f),
+            Ok(Arrived::Second(news)) => message_news(news, Either::Second(news.message), f),
+            Ok(Arrived::Repeat(stream)) => write!(f, "repeat, {}", stream_name(*stream)),
+            Ok(Arrived::Late(stream)) => write!(f, "late, {}", stream_name(*stream)),
             Err(refusal) => write!(f, "{refusal}"),
         }
     }
@@ -111,9 +117,9 @@ fn message_news<T: Copy, W: fmt::Write>(
     f: &mut fmt::Formatter<W>,
 ) -> fmt::Result {
     let class = news.class;
-    let said = Said(message);
+    let said = MessageText(message);
     let elapsed = news.moved.elapsed;
-    let sent_as = SentAs(news.redundancy);
+    let sent_as = RedundancyText(news.redundancy);
     write!(
         f,
         "news, {class}, {said}, {sent_as}, {elapsed} ms after the news before"

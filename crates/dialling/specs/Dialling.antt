@@ -1,8 +1,8 @@
 -- How long keys are held, and how long the pauses are. Assumes nothing.
 use Rattle.std.specs.Prelude.{ℕ, ◌-◌, ◌%◌, cond, [], ◌∷◌, slice_index, ◌==◌}
 
-abbrev pub held : ℕ → ℕ
-held place = slice_index (120 ∷ 90 ∷ 1100 ∷ 80 ∷ 150 ∷ []) (place % 5)
+abbrev pub holding_time : ℕ → ℕ
+holding_time place = slice_index (120 ∷ 90 ∷ 1100 ∷ 80 ∷ 150 ∷ []) (place % 5)
 
 -- after the key at a place
 abbrev pub pause_after : ℕ → ℕ

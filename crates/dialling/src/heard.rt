@@ -1,32 +1,32 @@
-// What the far end makes of the digits that it hears.
+//! What the far end makes of the digits that it hears.
 ghost use Rattle.std.specs.Prelude.{◌≡◌, IfOk};
 ghost use Rattle.dialling.specs.Heard.{ends, after, is_new, new_digit, hears, tones_heard};
 
 use crate::tone::Tone;
 use kinds::{CasBits, Digit, TONE_OFF};
 use network::Answer;
-use placing::{Class, Told};
+use placing::Class;
 use std::alloc::{AllocError, Global};
 use trunk::Arrived;
 
-// The answer to a call.
+/// The answer to a call.
 pub type Reply = Answer<Digit, CasBits>;
 
-// A key whose tone is on, and where it began.
+/// A key whose tone is on, and where it began.
 #[derive(Clone, Copy)]
-pub struct Begun {
+pub struct KeyOn {
     pub key: Digit,
     pub at: u64,
 }
 
-// The tone that is on, if one is, and where the one before ended. Times are positions of news.
+/// What a listener keeps: the tone that is on, if one is, and where the one before ended. Times are positions of news.
 #[derive(Clone, Copy)]
-pub struct Ear {
-    on: Option<Begun>,
+pub struct Listener {
+    on: Option<KeyOn>,
     ended: u64,
 }
 
-impl Ear {
+impl Listener {
     // A new digit at a position ends the tone that is on, which is answered, and begins one if it is a key.
     fn hear(&mut self, digit: Digit, position: u64) -> Option<Tone>
         ensures value { result ≡ ends self.old position }
@@ -40,7 +40,7 @@ impl Ear {
         if self.on.is_some() {
             self.ended = position;
         }
-        self.on = (digit.code() != TONE_OFF).then_some(Begun {
+        self.on = (digit.code() != TONE_OFF).then_some(KeyOn {
             key: digit,
             at: position,
         });
@@ -72,21 +72,21 @@ fn new_digit(answer: &Reply) -> Option<(Digit, u64)>
     ensures { result ≡ new_digit answer.now }
 {
     match answer {
-        Answer::Arrive(Ok(Arrived::First(Told::News(news)))) if is_new(news.class) => {
+        Answer::Arrive(Ok(Arrived::First(news))) if is_new(news.class) => {
             Some((news.message, news.moved.position))
         }
         _ => None,
     }
 }
 
-// The tones that the answers tell of.
-pub fn tones_heard(heap: Global, answers: &[Reply]) -> Result<Vec<Tone>, AllocError>
+/// The tones that the answers tell of. The error is want of memory.
+pub fn tones_heard(alloc: Global, answers: &[Reply]) -> Result<Vec<Tone>, AllocError>
     ensures { IfOk result (λ tones. tones.items ≡ tones_heard answers.now) }
 {
-    let mut tones = Vec::new(heap);
-    let mut ear = Ear { on: None, ended: 0 };
+    let mut tones = Vec::new(alloc);
+    let mut listener = Listener { on: None, ended: 0 };
     for answer in answers {
-        if let Some(tone) = ear.answer(answer) {
+        if let Some(tone) = listener.answer(answer) {
             tones.push(tone)?;
         }
     }

@@ -1,6 +1,6 @@
-// The octets of what arrives.
+//! The octets of what arrives.
 ghost use Rattle.std.specs.Prelude.{◌≡◌, take, length};
-ghost use Rattle.dialling.specs.Network.{spoiled};
+ghost use Rattle.dialling.specs.Network.{spoiled_octets};
 
 use type3::{LONGEST, Written};
 
@@ -17,14 +17,16 @@ fn buffer(octets: &[u8]) -> [u8; LONGEST]
     buffer
 }
 
-pub fn copied(octets: &[u8]) -> Written<LONGEST>
+/// A copy, of at most so many octets.
+pub fn copy_of(octets: &[u8]) -> Written<LONGEST>
     ensures { result ≡ take LONGEST octets.now }
 {
     Written::new(buffer(octets), octets.len())
 }
 
-pub fn spoiled(octets: &[u8]) -> Written<LONGEST>
-    ensures { result ≡ spoiled (take LONGEST octets.now) }
+/// The same with the lowest bit of the third octet changed, if there is one.
+pub fn spoiled_copy_of(octets: &[u8]) -> Written<LONGEST>
+    ensures { result ≡ spoiled_octets (take LONGEST octets.now) }
 {
     let mut buffer = buffer(octets);
     buffer[THIRD] ^= 1;

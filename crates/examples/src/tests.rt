@@ -1,4 +1,4 @@
-// Payloads that are known octet by octet.
+//! Payloads that are known octet by octet.
 use crate::plain::Plain;
 use crate::wide::{Mark, Wide};
 use crc10::crc_of;

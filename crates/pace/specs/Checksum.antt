@@ -10,14 +10,14 @@ use Rattle.kinds.specs.declared.cas.CasBits.{CasBits}
 use Rattle.kinds.specs.Systems as systems
 use Rattle.kinds.specs.Cas.{octet}
 use Rattle.placing.specs.declared.stream.Moved.{Moved}
-use Rattle.placing.specs.declared.stream.Told.{Told}
-use Rattle.placing.specs.declared.stream.Told.TheVariants.{News, Repeat, Late}
 use Rattle.placing.specs.declared.receiver.Class.{Class}
 use Rattle.placing.specs.declared.receiver.Class.TheVariants.{Event, Confirmed, Recovered}
 use Rattle.placing.specs.declared.receiver.MessageNews.{MessageNews}
-use Rattle.trunk.specs.declared.answer.AudioNews.{AudioNews}
+use Rattle.trunk.specs.declared.answer.Which.TheVariants as which
+use Rattle.trunk.specs.declared.answer.Stream.{Stream}
+use Rattle.trunk.specs.declared.answer.Stream.TheVariants.{Audio, Messages}
 use Rattle.trunk.specs.declared.answer.Arrived.{Arrived}
-use Rattle.trunk.specs.declared.answer.Arrived.TheVariants as on
+use Rattle.trunk.specs.declared.answer.Arrived.TheVariants as arrived
 
 -- the sum so far and a further number, modulo 2^64
 abbrev pub add : ℕ → ℕ → ℕ
@@ -36,10 +36,10 @@ of_force None = 0
 abbrev pub of_moved : ℕ → Moved → ℕ
 of_moved stream m = add (add stream m.elapsed) m.position
 
-abbrev pub of_audio : Told AudioNews → ℕ
-of_audio (News n) = add (of_moved 10 n.moved) n.place
-of_audio Repeat = 11
-of_audio Late = 12
+abbrev pub of_stream : Stream → ℕ
+of_stream Audio = 10
+of_stream (Messages which.First) = 20
+of_stream (Messages which.Second) = 30
 
 abbrev pub of_class : Class → ℕ
 of_class Event = 0
@@ -55,11 +55,9 @@ of_refusal f = add (number_of f) (unwrap_or (cause_of f) 0)
 
 -- an answer to an arrival
 abbrev pub of_answer : Result (Arrived Digit CasBits) Refusal → ℕ
-of_answer (Ok (on.Audio told)) = of_audio told
-of_answer (Ok (on.First (News n))) = of_news 20 n (of_digit n.message)
-of_answer (Ok (on.First Repeat)) = 21
-of_answer (Ok (on.First Late)) = 22
-of_answer (Ok (on.Second (News n))) = of_news 30 n (octet n.message)
-of_answer (Ok (on.Second Repeat)) = 31
-of_answer (Ok (on.Second Late)) = 32
+of_answer (Ok (arrived.Audio n)) = add (of_moved 10 n.moved) n.place
+of_answer (Ok (arrived.First n)) = of_news 20 n (of_digit n.message)
+of_answer (Ok (arrived.Second n)) = of_news 30 n (octet n.message)
+of_answer (Ok (arrived.Repeat stream)) = of_stream stream + 1
+of_answer (Ok (arrived.Late stream)) = of_stream stream + 2
 of_answer (Err f) = of_refusal f

@@ -1,22 +1,22 @@
-// The checksum of a list of answers: a number of each, and these folded into one.
-ghost use Rattle.std.specs.Prelude.{◌≡◌};
-ghost use Rattle.pace.specs.Checksum.{add, of_digit, of_force, of_moved, of_audio, of_class, of_news, of_refusal, of_answer};
+//! The checksum of a list of answers: a number of each, and these folded into one.
+ghost use Rattle.std.specs.Prelude.{◌≡◌, ◌≤◌};
+ghost use Rattle.pace.specs.Checksum.{add, of_digit, of_force, of_moved, of_stream, of_class, of_news, of_refusal, of_answer};
 ghost use Rattle.kinds.specs.Cas.{octet};
 
 use kinds::{CasBits, Digit};
-use placing::{Class, MessageNews, Moved, Told};
+use placing::{Class, MessageNews, Moved};
 use refusal::Refusal;
-use trunk::{Arrived, AudioNews};
+use trunk::{Arrived, Stream, Which};
 use type3::Either;
 
-// The sum so far, and a further number.
+/// The sum so far, and a further number.
 pub fn add(sum: u64, number: u64) -> u64
     ensures { result ≡ add sum number }
 {
     sum.wrapping_mul(31).wrapping_add(number)
 }
 
-// Where nothing is in force it is 0.
+/// The number of what is in force, and 0 for nothing.
 pub fn of_force(force: Option<Either<Digit, CasBits>>) -> u64
     ensures { result ≡ of_force force }
 {
@@ -27,28 +27,28 @@ pub fn of_force(force: Option<Either<Digit, CasBits>>) -> u64
     }
 }
 
+/// The number of an answer to an arrival.
 pub fn of_answer(answer: Result<Arrived<Digit, CasBits>, Refusal>) -> u64
     ensures { result ≡ of_answer answer }
 {
     match answer {
-        Ok(Arrived::Audio(told)) => of_audio(told),
-        Ok(Arrived::First(Told::News(news))) => of_news(20, &news, of_digit(&news.message)),
-        Ok(Arrived::First(Told::Repeat)) => 21,
-        Ok(Arrived::First(Told::Late)) => 22,
-        Ok(Arrived::Second(Told::News(news))) => of_news(30, &news, of_bits(news.message)),
-        Ok(Arrived::Second(Told::Repeat)) => 31,
-        Ok(Arrived::Second(Told::Late)) => 32,
+        Ok(Arrived::Audio(news)) => add(of_moved(10, news.moved), news.place as u64),
+        Ok(Arrived::First(news)) => of_news(20, &news, of_digit(&news.message)),
+        Ok(Arrived::Second(news)) => of_news(30, &news, of_bits(news.message)),
+        Ok(Arrived::Repeat(stream)) => of_stream(stream) + 1,
+        Ok(Arrived::Late(stream)) => of_stream(stream) + 2,
         Err(refusal) => of_refusal(refusal),
     }
 }
 
-fn of_audio(told: Told<AudioNews>) -> u64
-    ensures { result ≡ of_audio told }
+fn of_stream(stream: Stream) -> u64
+    ensures value { result ≡ of_stream stream }
+    ensures small { result ≤ 30 }
 {
-    match told {
-        Told::News(news) => add(of_moved(10, news.moved), news.place as u64),
-        Told::Repeat => 11,
-        Told::Late => 12,
+    match stream {
+        Stream::Audio => 10,
+        Stream::Messages(Which::First) => 20,
+        Stream::Messages(Which::Second) => 30,
     }
 }
 

@@ -1,14 +1,14 @@
-// A lap: a fresh end, and every packet of a list arrives.
+//! A lap: a fresh end, and every packet of a list arrives.
 use crate::checksum::{add, of_answer, of_force};
 use crate::list::List;
 use kinds::{Cas, Digits};
 use std::alloc::Global;
 use trunk::{SetUp, Which};
 
-// The checksum of the answers, and of what is in force at the end.
-pub fn lap(heap: Global, list: &List) -> anyhow::Result<u64> {
-    let mut set_up = SetUp::new(heap)?;
-    set_up.load(heap, list.entries.as_slice())?;
+/// The checksum of the answers, and of what is in force at the end.
+pub fn lap(alloc: Global, list: &List) -> anyhow::Result<u64> {
+    let mut set_up = SetUp::new(alloc)?;
+    set_up.load(alloc, list.entries.as_slice())?;
     let mut end = set_up.start::<Digits, Cas>();
     let mut sum = 0;
     for packet in &list.packets {

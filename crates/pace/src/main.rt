@@ -1,5 +1,5 @@
-// Measures how long an end takes over arrivals. It reads a list of them once, makes as many laps over it as its argument says, each
-// at a fresh end, and prints the checksum of the answers and the processor time of each lap.
+//! Measures how long an end takes over arrivals. It reads a list of them once, makes as many laps over it as its argument says,
+//! each at a fresh end, and prints the checksum of the answers and the processor time of each lap.
 #![tactic(auto)]
 
 use lap::lap;

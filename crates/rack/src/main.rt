@@ -1,23 +1,21 @@
-// Drives one end of a trunk from text lines, one call to a line of the input: what the end answers, or that the line is in error.
+//! Drives one end of a trunk from text lines, one call to a line of the input: what the end answers, or that the line is in error.
 #![tactic(auto)]
 
-use answer::Answer;
-use call::Call;
-use examples::lines::answer_octets;
-use rack::Rack;
+use call::call_of;
+use session::session::Session;
+use show::Line;
+use text::lines::answer_octets;
 
-mod answer;
 mod call;
-mod end;
-mod number;
-mod rack;
-mod refused;
-mod service;
+mod show;
 
 fn main(rt: HostRuntime) -> anyhow::Result<()> {
-    let rack = Rack::new(rt.alloc())?;
-    answer_octets(&rt, rack, |heap, rack, line| match Call::of(heap, line)? {
-        Some(call) => Ok(rack.answer(heap, call)?),
-        None => Ok((Answer::BadLine, rack)),
+    let session = Session::new(rt.alloc())?;
+    answer_octets(&rt, session, |alloc, session, line| {
+        let Some(call) = call_of(alloc, line)? else {
+            return Ok((Line::NoCall, session));
+        };
+        let (answer, session) = session.answer(alloc, call)?;
+        Ok((Line::Answer(answer), session))
     })
 }

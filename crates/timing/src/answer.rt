@@ -1,23 +1,21 @@
-// What a call is answered, in one line.
+//! The answer to a call, in one line.
 use crate::room::MOST_ROOM;
-use examples::hex::Hex;
-use examples::refused::Refused;
 use refusal::Refusal;
 use std::fmt;
+use text::hex::Hex;
+use text::refusals::NumberAndCause;
 use type3::Written;
 
-// A refusal is an answer here, and no error of the program.
+/// The answer to a call. A refusal is one, and no error of the program.
 #[derive(Drop)]
 pub enum Answer {
-    // all streams are new
+    /// All streams are new.
     New,
-    // the audio stream is new, under a profile
+    /// The audio stream is new, under a profile.
     Loaded,
     Accepted,
     Octets(Written<MOST_ROOM>),
     Nothing,
-    // an octet was changed that is none of a packet's
-    Touched,
     Uui(u16),
     Refused(Refusal),
     BadLine,
@@ -31,9 +29,8 @@ impl fmt::Display for Answer {
             Answer::Accepted => write!(f, "accepted"),
             Answer::Octets(octets) => write!(f, "{}", Hex(octets.as_slice())),
             Answer::Nothing => write!(f, "nothing"),
-            Answer::Touched => write!(f, "touched"),
             Answer::Uui(uui) => write!(f, "uui {uui}"),
-            Answer::Refused(refusal) => write!(f, "{}", Refused(*refusal)),
+            Answer::Refused(refusal) => write!(f, "{}", NumberAndCause(*refusal)),
             Answer::BadLine => write!(f, "bad line"),
         }
     }

@@ -1,21 +1,21 @@
-// A call, by its words. The first says what is asked.
+//! A call, by its words. The first says what is asked.
 use crate::room::Room;
-use examples::bits::bits_of;
-use kinds::{CasBits, Digit, System, TONE_OFF};
+use kinds::{CasBits, Digit};
 use profile::Example;
 use refusal::Refusal;
+use text::bits::bits_of;
+use text::digit::{key_digit, tone_off};
+use text::number::number;
 
-// In dBm0.
-const LEVEL: i8 = -10;
-
+/// A call.
 #[derive(Clone, Copy)]
 pub enum Call {
-    // all streams begin anew
+    /// All streams begin anew.
     New,
-    // the audio stream begins anew, under an example
+    /// The audio stream begins anew, under an example.
     Profile(Example),
     Audio { time: u64, place: usize, length: u8 },
-    // the event of a digit that was made, or the refusal to make it
+    /// The event of a digit that was made, or the refusal to make it.
     Digit(u64, Result<Digit, Refusal>),
     Cas(u64, CasBits),
     DueDigit(u64, Room),
@@ -23,17 +23,17 @@ pub enum Call {
 }
 
 impl Call {
-    // `None` where the words are no call, or a number is out of its range.
+    /// `None` where the words are no call, or a number is out of its range.
     pub fn of(words: &[&str]) -> Option<Call> {
         match words {
             ["new"] => Some(Call::New),
             ["profile", name] => Some(Call::Profile(name.parse::<Example>().ok()?)),
             ["audio", time, place, length] => Some(Call::Audio {
-                time: time.parse::<u64>().ok()?,
-                place: place.parse::<usize>().ok()?,
-                length: length.parse::<u8>().ok()?,
+                time: number::<u64>(time)?,
+                place: number::<usize>(place)?,
+                length: number::<u8>(length)?,
             }),
-            [what, time, words @ ..] => Call::at(what, time.parse::<u64>().ok()?, words),
+            [what, time, words @ ..] => Call::at(what, number::<u64>(time)?, words),
             _ => None,
         }
     }
@@ -43,12 +43,9 @@ impl Call {
         match (what, words) {
             ("key", [key]) => {
                 let key = key.parse::<char>().ok()?;
-                Some(Call::Digit(time, Digit::of_key(key, LEVEL)))
+                Some(Call::Digit(time, key_digit(key)))
             }
-            ("off", []) => {
-                let off = Digit::new(System::Dtmf.into(), TONE_OFF, LEVEL);
-                Some(Call::Digit(time, off))
-            }
+            ("off", []) => Some(Call::Digit(time, tone_off())),
             ("cas", [digits]) => Some(Call::Cas(time, bits_of(digits.as_bytes())?)),
             ("duekey", [room]) => Some(Call::DueDigit(time, Room::of(room)?)),
             ("duecas", [room]) => Some(Call::DueCas(time, Room::of(room)?)),

@@ -1,21 +1,23 @@
-// What a case is answered, in one line.
-use examples::hex::Hex;
-use examples::refused::Refused;
+//! The answer to a case, in one line.
 use examples::wide::Mark;
 use kinds::{CasBits, Digit};
 use refusal::Refusal;
 use std::fmt;
+use text::bits::FourDigits;
+use text::digit::LevelTypeCode;
+use text::hex::Hex;
+use text::refusals::NumberAndCause;
 use type3::{LONGEST, Payload, Written};
 
-// A refusal is an answer here, and no error of the program.
+/// The answer to a case. A refusal is one, and no error of the program.
 #[derive(Drop)]
 pub enum Answer {
     Octets(Written<LONGEST>),
     Digit(Payload<Digit>),
     Cas(Payload<CasBits>),
     Wide(Payload<Mark>),
-    // what a C program is told
-    Told(u32),
+    /// The answer to a C program.
+    Number(u32),
     Refused(Refusal),
     BadLine,
 }
@@ -26,21 +28,19 @@ impl fmt::Display for Answer {
             Answer::Octets(octets) => write!(f, "{}", Hex(octets.as_slice())),
             Answer::Digit(payload) => {
                 show_head("digit", payload, f)?;
-                let digit = payload.message;
-                let system: u8 = digit.system().into();
-                write!(f, " {} {system} {}", digit.level(), digit.code())
+                write!(f, " {}", LevelTypeCode(payload.message))
             }
             Answer::Cas(payload) => {
                 show_head("cas", payload, f)?;
-                write!(f, " {:04b}", payload.message.octet())
+                write!(f, " {}", FourDigits(payload.message))
             }
             Answer::Wide(payload) => {
                 show_head("wide", payload, f)?;
                 let code: u8 = payload.message.into();
                 write!(f, " {code}")
             }
-            Answer::Told(number) => write!(f, "{number}"),
-            Answer::Refused(refusal) => write!(f, "{}", Refused(*refusal)),
+            Answer::Number(number) => write!(f, "{number}"),
+            Answer::Refused(refusal) => write!(f, "{}", NumberAndCause(*refusal)),
             Answer::BadLine => write!(f, "bad line"),
         }
     }

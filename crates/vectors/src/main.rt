@@ -1,9 +1,9 @@
-// Answers cases of type 3 payloads, one to a line of the input: the octets that are written, what they say when they are read, or
-// the refusal.
+//! Answers cases of type 3 payloads, one to a line of the input: the octets that are written, what they say when they are read,
+//! or the refusal.
 #![tactic(auto)]
 
 use case::answer_to;
-use examples::lines::answer_lines;
+use text::lines::answer_words;
 
 mod answer;
 mod case;
@@ -11,5 +11,5 @@ mod reading;
 mod writing;
 
 fn main(rt: HostRuntime) -> anyhow::Result<()> {
-    answer_lines(&rt, |heap, line| Ok(answer_to(heap, line)?))
+    answer_words(&rt, |alloc, words| Ok(answer_to(alloc, words)?))
 }

@@ -1,14 +1,20 @@
-// Payloads to be written, by their words.
+//! Payloads to be written, by their words.
+ghost use Rattle.std.specs.Prelude.{◌≡◌};
+ghost use Rattle.type3.specs.Octets.{written};
+ghost use Rattle.vectors.specs.Answers.{payload_of, write};
+ghost use Rattle.vectors.specs.declared.answer.Answer.TheVariants.{Octets};
+
 use crate::answer::Answer;
-use examples::bits::bits_of;
 use examples::wide::{Mark, Wide};
 use kinds::{Cas, CasBits, Digit, Digits};
 use refusal::Refusal;
+use text::bits::bits_of;
+use text::number::{number, signed_number};
 use type3::{Kind, LONGEST, Payload, Redundancy, Stamp, Written, write_payload};
 
-// The two numbers at the head of a payload, and its message.
+/// The two numbers at the head of a payload that is to be written, and its message.
 #[derive(Clone, Copy)]
-pub struct Asked {
+pub struct WriteRequest {
     redundancy: Redundancy,
     stamp: Stamp,
     message: Message,
@@ -22,21 +28,23 @@ enum Message {
     Wide(Mark),
 }
 
-impl Asked {
-    // `None` where a word is not what it is to be.
-    pub fn of(kind: &str, words: &[&str]) -> Option<Asked> {
+impl WriteRequest {
+    /// The request of a kind's name and the words after it: `None` where a word is not what it is to be.
+    pub fn of(kind: &str, words: &[&str]) -> Option<WriteRequest> {
         let [redundancy, stamp, words @ ..] = words else {
             return None;
         };
-        Some(Asked {
-            redundancy: Redundancy::new(redundancy.parse::<u8>().ok()?)?,
-            stamp: Stamp::new(stamp.parse::<u16>().ok()?)?,
+        Some(WriteRequest {
+            redundancy: Redundancy::new(number::<u8>(redundancy)?)?,
+            stamp: Stamp::new(number::<u16>(stamp)?)?,
             message: Message::of(kind, words)?,
         })
     }
 
-    // The octets, or the refusal.
-    pub fn answer(&self) -> Answer {
+    /// The octets, or the refusal.
+    pub fn answer(&self) -> Answer
+        ensures { result ≡ write self.now self.now.message }
+    {
         match self.message {
             Message::Cas(bits) => self.write::<Cas>(bits),
             Message::Digit(Ok(digit)) => self.write::<Digits>(digit),
@@ -45,7 +53,9 @@ impl Asked {
         }
     }
 
-    fn write<K: Kind>(&self, message: K::Message) -> Answer {
+    fn write<K: Kind>(&self, message: K::Message) -> Answer
+        ensures { result ≡ Octets (written K.Kind.model (payload_of self.now message)) }
+    {
         let payload = Payload {
             redundancy: self.redundancy,
             stamp: self.stamp,
@@ -63,26 +73,21 @@ impl Message {
     fn of(kind: &str, words: &[&str]) -> Option<Message> {
         match (kind, words) {
             ("cas", [digits]) => Some(Message::Cas(bits_of(digits.as_bytes())?)),
-            ("digit", [system, code, dbm0]) => {
-                let system = system.parse::<u8>().ok()?;
-                let code = code.parse::<u8>().ok()?;
-                let dbm0 = dbm0.parse::<i8>().ok()?;
-                Some(Message::Digit(Digit::new(system, code, dbm0)))
-            }
+            ("digit", [system, code, dbm0]) => Some(Message::Digit(Digit::new(
+                number::<u8>(system)?,
+                number::<u8>(code)?,
+                signed_number(dbm0)?,
+            ))),
             ("key", [key, dbm0]) => Message::of_key(key, dbm0),
             // a blank comes as two empty words
             ("key", ["", "", dbm0]) => Message::of_key(" ", dbm0),
-            ("wide", [code]) => {
-                let code = code.parse::<u8>().ok()?;
-                Some(Message::Wide(Mark::try_from(code).ok()?))
-            }
+            ("wide", [code]) => Some(Message::Wide(Mark::try_from(number::<u8>(code)?).ok()?)),
             _ => None,
         }
     }
 
     fn of_key(key: &str, dbm0: &str) -> Option<Message> {
         let key = key.parse::<char>().ok()?;
-        let dbm0 = dbm0.parse::<i8>().ok()?;
-        Some(Message::Digit(Digit::of_key(key, dbm0)))
+        Some(Message::Digit(Digit::of_key(key, signed_number(dbm0)?)))
     }
 }

@@ -4,4 +4,4 @@ use Rattle.dialling.proofs.heard.tones_heard.Given as goal
 
 -- with those of the answers that are left, the tones so far are all
 abbrev pub invariant-loop-answer : goal.invariant-loop-answer
-invariant-loop-answer l = l.tones.items ++ tones_from l.ear (drop l.answer-index l.answers) ≡ tones_heard l.answers
+invariant-loop-answer l = l.tones.items ++ tones_from l.listener (drop l.answer-index l.answers) ≡ tones_heard l.answers

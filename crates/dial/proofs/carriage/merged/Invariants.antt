@@ -1,6 +1,0 @@
-use Rattle.std.proofs.Common.{length, ◌≤◌}
-use Rattle.dial.proofs.carriage.merged.Given as goal
-
--- what is still to come is of the parcels
-abbrev pub invariant-loop-turn : goal.invariant-loop-turn
-invariant-loop-turn l = length l.coming ≤ length l.parcels

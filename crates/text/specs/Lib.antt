@@ -1,0 +1,4 @@
+pub mod Hex
+pub mod Bits
+pub mod Tones
+pub mod Loaded
