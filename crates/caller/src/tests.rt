@@ -1,7 +1,7 @@
 //! Two ends and a list of calls run, where there is memory.
 use kinds::Digit;
-use network::sample::sample;
 use network::Side;
+use network::sample::sample;
 use std::test::Fail;
 use trunk::Which;
 use type3::Either;
