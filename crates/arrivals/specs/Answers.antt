@@ -12,7 +12,7 @@ use Rattle.type3.specs.Kinds.{Meaning}
 use Rattle.type3.specs.Octets.{read}
 use Rattle.type3.specs.declared.payload.Payload.{Payload}
 use Rattle.placing.specs.declared.span.Labelling.{Labelling}
-use Rattle.placing.specs.declared.stream.Told.{Told}
+use Rattle.placing.specs.declared.stream.Novelty.{Novelty}
 use Rattle.placing.specs.declared.receiver.MessageNews.{MessageNews}
 use Rattle.placing.specs.Placing.{place}
 use Rattle.placing.specs.Receiving.{Inbound, new_receiver, receive}
@@ -28,12 +28,12 @@ use Rattle.arrivals.specs.declared.streams.Streams.{Streams}
 
 module _ {M : Type 0} (k : Meaning M) where
   -- octets that are no payload of the kind change nothing
-  abbrev pub hear_by : Inbound M → ℕ → Result (Payload M) Refusal → Result (Told (MessageNews M)) Refusal × Inbound M
+  abbrev pub hear_by : Inbound M → ℕ → Result (Payload M) Refusal → Result (Novelty (MessageNews M)) Refusal × Inbound M
   hear_by s a (Ok x) = receive k s a x
   hear_by s a (Err f) = (Err f, s)
 
   -- octets that arrive at a time
-  abbrev pub hear : Inbound M → ℕ → List ℕ → Result (Told (MessageNews M)) Refusal × Inbound M
+  abbrev pub hear : Inbound M → ℕ → List ℕ → Result (Novelty (MessageNews M)) Refusal × Inbound M
   hear s a octets = hear_by s a (read k octets)
 
 -- ---- all streams

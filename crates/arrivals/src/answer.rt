@@ -1,6 +1,6 @@
 //! The answer to a call, in one line.
 use kinds::{CasBits, Digit};
-use placing::{MessageNews, Moved, Told};
+use placing::{Advance, MessageNews, Novelty};
 use refusal::Refusal;
 use std::fmt;
 use text::bits::FourDigits;
@@ -15,9 +15,9 @@ pub enum Answer {
     New,
     /// The stream of labels is new: after how much time they repeat, and what they count, in milliseconds.
     Begun { span: u32, unit: u16 },
-    Label(Told<Moved>),
-    Digit(Told<MessageNews<Digit>>),
-    Cas(Told<MessageNews<CasBits>>),
+    Label(Novelty<Advance>),
+    Digit(Novelty<MessageNews<Digit>>),
+    Cas(Novelty<MessageNews<CasBits>>),
     DigitInForce(Option<Digit>),
     CasInForce(Option<CasBits>),
     Refused(Refusal),
@@ -29,20 +29,25 @@ impl fmt::Display for Answer {
         match self {
             Answer::New => write!(f, "new"),
             Answer::Begun { span, unit } => write!(f, "span {span} unit {unit}"),
-            Answer::Label(Told::News(moved)) => write!(f, "news {}", ElapsedAndPosition(*moved)),
-            Answer::Digit(Told::News(news)) => {
+            Answer::Label(Novelty::News(advance)) => write!(
+                f,
+                "news {}",
+                ElapsedAndPosition(*advance)
+            ),
+            Answer::Digit(Novelty::News(news)) => {
                 show_news(news, f)?;
                 write!(f, " digit {}", LevelTypeCode(news.message))
             }
-            Answer::Cas(Told::News(news)) => {
+            Answer::Cas(Novelty::News(news)) => {
                 show_news(news, f)?;
                 write!(f, " cas {}", FourDigits(news.message))
             }
-            Answer::Label(Told::Repeat) | Answer::Digit(Told::Repeat) | Answer::Cas(Told::Repeat) =>
-                { write!(f, "repeat") }
-            Answer::Label(Told::Late) | Answer::Digit(Told::Late) | Answer::Cas(Told::Late) => {
-                write!(f, "late")
-            }
+            Answer::Label(Novelty::Repeat)
+            | Answer::Digit(Novelty::Repeat)
+            | Answer::Cas(Novelty::Repeat) => { write!(f, "repeat") }
+            Answer::Label(Novelty::Late)
+            | Answer::Digit(Novelty::Late)
+            | Answer::Cas(Novelty::Late) => { write!(f, "late") }
             Answer::DigitInForce(Some(digit)) => {
                 write!(f, "in force digit {}", LevelTypeCode(*digit))
             }

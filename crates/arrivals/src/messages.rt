@@ -2,7 +2,7 @@
 ghost use Rattle.std.specs.Prelude.{◌≡◌};
 ghost use Rattle.arrivals.specs.Answers.{hear};
 
-use placing::{MessageNews, Receiver, Told};
+use placing::{MessageNews, Novelty, Receiver};
 use refusal::{Refusal, Time};
 use type3::{Kind, read_payload};
 
@@ -11,7 +11,7 @@ pub fn hear<K: Kind>(
     receiver: &mut Receiver<K>,
     time: Time,
     octets: &[u8],
-) -> Result<Told<MessageNews<K::Message>>, Refusal>
+) -> Result<Novelty<MessageNews<K::Message>>, Refusal>
     ensures value { result ≡ (hear K.Kind.model receiver.old time octets.now).0 }
     ensures after { receiver.new ≡ (hear K.Kind.model receiver.old time octets.now).1 }
 {

@@ -7,7 +7,7 @@ use crate::answer::Answer;
 use crate::call::{Call, Packet};
 use crate::messages::hear;
 use kinds::{Cas, Digits};
-use placing::{Labelling, Receiver, Stream};
+use placing::{Labelling, Receiver, Timeline};
 use profile::{Entry, LoadError, Profile};
 use refusal::Time;
 use std::alloc::Global;
@@ -17,7 +17,7 @@ use text::refusals::loaded_or_refused;
 #[derive(Drop)]
 pub struct Streams {
     labelling: Labelling,
-    labels: Stream,
+    labels: Timeline,
     digits: Receiver<Digits>,
     cas: Receiver<Cas>,
 }
@@ -29,7 +29,7 @@ impl Streams {
     {
         Streams {
             labelling: Labelling::of_stamps(),
-            labels: Stream::new(),
+            labels: Timeline::new(),
             digits: Receiver::<Digits>::new(),
             cas: Receiver::<Cas>::new(),
         }
@@ -76,7 +76,7 @@ impl Streams {
         ensures after { self.new ≡ (begin self.old labelling).1 }
     {
         self.labelling = labelling;
-        self.labels = Stream::new();
+        self.labels = Timeline::new();
         Answer::Begun {
             span: labelling.span.get(),
             unit: labelling.unit,

@@ -4,7 +4,7 @@
 use kinds::{Cas, CasBits, Digit, Digits};
 use profile::Example;
 use text::hex::Hex;
-use trunk::{Arrived, InService, SetUp, Which};
+use trunk::{Arrived, InService, SetUp, WhichKind};
 use type3::{Either, LONGEST, TYPE_3_UUI};
 
 #[cfg(test)]
@@ -44,7 +44,7 @@ fn main(rt: HostRuntime) -> anyhow::Result<()> {
 
 // What is due of each kind at a time.
 fn tell_due(rt: &HostRuntime, end: &mut InService<Digits, Cas>, time: u64) -> anyhow::Result<()> {
-    for which in [Which::First, Which::Second] {
+    for which in [WhichKind::First, WhichKind::Second] {
         let mut octets = [0; LONGEST];
         if let Some(count) = end.due(which, time, &mut octets)? {
             println!(rt; "due at {time}: {}", Hex(&octets[..count]))?;

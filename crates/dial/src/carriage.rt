@@ -6,7 +6,7 @@ use dialling::octets::{copy_of, spoiled_copy_of};
 use network::{Answer, Call, Side, Turn};
 use refusal::Time;
 use std::alloc::{AllocError, Global};
-use type3::{LONGEST, TYPE_3_UUI, Written};
+use type3::{LONGEST, OctetBuffer, TYPE_3_UUI};
 
 // A packet that a call made, by the place of the call.
 #[derive(Clone, Copy)]
@@ -24,7 +24,7 @@ pub struct Arrival {
     call: usize,
     delivery: Delivery,
     uui: u16,
-    octets: Written<LONGEST>,
+    octets: OctetBuffer<LONGEST>,
 }
 
 const FOREIGN: u16 = 27;

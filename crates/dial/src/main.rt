@@ -13,7 +13,7 @@ use show::{show_tones, show_turns};
 use std::alloc::Global;
 use std::env;
 use text::hex::Hex;
-use trunk::{SetUp, Which};
+use trunk::{SetUp, WhichKind};
 use words::{MessageText, PayloadText};
 
 mod carriage;
@@ -73,7 +73,7 @@ fn show_call(
         "not "
     };
     println!(rt; "{not}heard as dialled")?;
-    match run.ends.end(Side::Far).in_force(Which::Second) {
+    match run.ends.end(Side::Far).in_force(WhichKind::Second) {
         Some(bits) => println!(rt; "in force at the far end: {}", MessageText(bits))?,
         None => println!(rt; "in force at the far end: nothing")?,
     }

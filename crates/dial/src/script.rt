@@ -4,7 +4,7 @@ use kinds::{CasBits, Digit};
 use network::{Call, Side, Turn};
 use std::alloc::{AllocError, Global};
 use text::digit::{key_digit, tone_off};
-use trunk::Which;
+use trunk::WhichKind;
 use type3::{Either, LONGEST};
 
 /// A message of one of the two kinds.
@@ -121,7 +121,7 @@ impl Script {
                     payload: SPEECH,
                 }))?;
             }
-            for which in [Which::First, Which::Second] {
+            for which in [WhichKind::First, WhichKind::Second] {
                 calls.push(near(Call::Due {
                     which,
                     time,

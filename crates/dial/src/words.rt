@@ -6,7 +6,7 @@ use refusal::Refusal;
 use std::fmt;
 use text::bits::FourDigits;
 use text::hex::Hex;
-use trunk::{Arrived, Stream, Which};
+use trunk::{Arrived, Stream, WhichKind};
 use type3::{Either, Redundancy, TYPE_3_UUI, read_either};
 
 /// A message.
@@ -82,8 +82,8 @@ impl<'a> fmt::Display for PacketText<'a> {
 fn stream_name(stream: Stream) -> &'static str {
     match stream {
         Stream::Audio => "audio",
-        Stream::Messages(Which::First) => "digits",
-        Stream::Messages(Which::Second) => "bits",
+        Stream::Messages(WhichKind::First) => "digits",
+        Stream::Messages(WhichKind::Second) => "bits",
     }
 }
 
@@ -96,7 +96,7 @@ impl<'a> fmt::Display for ArrivalText<'a> {
         match self.0 {
             Ok(Arrived::Audio(news)) => {
                 let place = news.place;
-                let elapsed = news.moved.elapsed;
+                let elapsed = news.advance.elapsed;
                 write!(
                     f,
                     "news, audio of entry {place}, {elapsed} ms after the news before"
@@ -118,7 +118,7 @@ fn message_news<T: Copy, W: fmt::Write>(
 ) -> fmt::Result {
     let class = news.class;
     let said = MessageText(message);
-    let elapsed = news.moved.elapsed;
+    let elapsed = news.advance.elapsed;
     let sent_as = RedundancyText(news.redundancy);
     write!(
         f,

@@ -44,7 +44,7 @@ after listener digit position = record { on = begins digit position; ended = end
 
 -- what an answer says of a new digit: it, and its position
 abbrev pub digit_of_news : MessageNews Digit → Option (Digit × ℕ)
-digit_of_news news = cond (is_new news.class) (Some (news.message, news.moved.position)) None
+digit_of_news news = cond (is_new news.class) (Some (news.message, news.advance.position)) None
 
 abbrev pub digit_of_arrival : Result (Arrived Digit CasBits) Refusal → Option (Digit × ℕ)
 digit_of_arrival (Ok (arrived.Audio x)) = None

@@ -73,7 +73,7 @@ fn new_digit(answer: &Reply) -> Option<(Digit, u64)>
 {
     match answer {
         Answer::Arrive(Ok(Arrived::First(news))) if is_new(news.class) => {
-            Some((news.message, news.moved.position))
+            Some((news.message, news.advance.position))
         }
         _ => None,
     }

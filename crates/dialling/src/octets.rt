@@ -2,7 +2,7 @@
 ghost use Rattle.std.specs.Prelude.{◌≡◌, take, length};
 ghost use Rattle.dialling.specs.Network.{spoiled_octets};
 
-use type3::{LONGEST, Written};
+use type3::{LONGEST, OctetBuffer};
 
 // The octet of which a bit is changed.
 const THIRD: usize = 2;
@@ -18,17 +18,17 @@ fn buffer(octets: &[u8]) -> [u8; LONGEST]
 }
 
 /// A copy, of at most so many octets.
-pub fn copy_of(octets: &[u8]) -> Written<LONGEST>
+pub fn copy_of(octets: &[u8]) -> OctetBuffer<LONGEST>
     ensures { result ≡ take LONGEST octets.now }
 {
-    Written::new(buffer(octets), octets.len())
+    OctetBuffer::new(buffer(octets), octets.len())
 }
 
 /// The same with the lowest bit of the third octet changed, if there is one.
-pub fn spoiled_copy_of(octets: &[u8]) -> Written<LONGEST>
+pub fn spoiled_copy_of(octets: &[u8]) -> OctetBuffer<LONGEST>
     ensures { result ≡ spoiled_octets (take LONGEST octets.now) }
 {
     let mut buffer = buffer(octets);
     buffer[THIRD] ^= 1;
-    Written::new(buffer, octets.len())
+    OctetBuffer::new(buffer, octets.len())
 }

@@ -3,7 +3,7 @@ ghost use Rattle.std.specs.Prelude.{◌≡◌};
 ghost use Rattle.type3.specs.Octets.{read_either};
 ghost use Rattle.kinds.specs.Cas.{cas};
 ghost use Rattle.kinds.specs.Digits.{digits};
-ghost use Rattle.kinds.specs.Export.{type_of, number_told, told, Apart};
+ghost use Rattle.kinds.specs.Export.{type_of, number_told, novelty, Apart};
 
 use crate::cas::{Cas, CasBits};
 use crate::digit::Digit;
@@ -17,16 +17,16 @@ use type3::{Either, Kind, Payload, read_either};
 /// 131,072, and a payload that is read gives that or more.
 #[tactic(auto, using(crate::proofs::Numbers::refused_told))]
 pub fn read_as_number(payload: &[u8]) -> u32
-    ensures value { result ≡ told payload.now }
+    ensures value { result ≡ novelty payload.now }
     ensures apart { Apart (read_either digits cas payload.now) result }
 {
     let [first, second, ..] = payload else {
-        return refused(Type3Fault::PayloadSize.into());
+        return number_of_refusal(Type3Fault::PayloadSize.into());
     };
     let head = u32::from(*first) * 256 + u32::from(*second);
     match read_either::<Digits, Cas>(payload) {
         Ok(read) => type_of(read) * 65536 + head,
-        Err(refusal) => refused(refusal),
+        Err(refusal) => number_of_refusal(refusal),
     }
 }
 
@@ -41,7 +41,7 @@ fn type_of(read: Either<Payload<Digit>, Payload<CasBits>>) -> u32
 }
 
 // A refusal's number, with 256 × the cause added where there is one.
-fn refused(refusal: Refusal) -> u32
+fn number_of_refusal(refusal: Refusal) -> u32
     ensures { result ≡ number_told refusal }
 {
     let number = u32::from(refusal.number());

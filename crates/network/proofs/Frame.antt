@@ -4,7 +4,7 @@ use Rattle.std.proofs.lemmas.Bool.{and_parts}
 use Rattle.type3.specs.Kinds.{Meaning}
 use Rattle.profile.specs.declared.entry.Entry.{Entry}
 use Rattle.placing.specs.Lists.{everywhere, Everywhere}
-use Rattle.trunk.specs.declared.answer.Which.{Which}
+use Rattle.trunk.specs.declared.answer.WhichKind.{WhichKind}
 use Rattle.trunk.specs.End.{in_force}
 use Rattle.trunk.specs.declared.answer.Stream.TheVariants.{Messages}
 use Rattle.network.specs.declared.side.Side.{Side}
@@ -22,7 +22,7 @@ module _ {P Q : Type 0} where
   -- what is in force is right
   abbrev pub Forced : List (Moment P Q) → Ends P Q → Type 0
   Forced h w =
-      (side : Side) (which : Which) (s : Sound P Q) → latest_news (sounds side (Messages which) h) ≡ Some s
+      (side : Side) (which : WhichKind) (s : Sound P Q) → latest_news (sounds side (Messages which) h) ≡ Some s
       → in_force (end_at w side) which ≡ had (other side) which s.packet.time h
 
   -- Something is kept: it holds at the start, each call keeps it and is answered rightly, and what is in force is right.

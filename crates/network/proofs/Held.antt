@@ -11,8 +11,8 @@ use Rattle.type3.specs.declared.payload.Either.TheVariants as either
 use Rattle.profile.specs.declared.entry.Entry.{Entry}
 use Rattle.sending.specs.Audio as sending-audio
 use Rattle.sending.specs.Sending as sending
-use Rattle.trunk.specs.declared.answer.Which.{Which}
-use Rattle.trunk.specs.declared.answer.Which.TheVariants.{First, Second}
+use Rattle.trunk.specs.declared.answer.WhichKind.{WhichKind}
+use Rattle.trunk.specs.declared.answer.WhichKind.TheVariants.{First, Second}
 use Rattle.trunk.specs.End as trunk
 use Rattle.trunk.specs.End.{End, started, with_outs, with_ins, arrive_audio, arrive_read, arrive_questions}
 use Rattle.trunk.specs.declared.answer.Stream.{Stream}
@@ -73,9 +73,9 @@ module _ {P Q : Type 0} {p : Meaning P} {q : Meaning Q} {es : List Entry} where
 
   -- a call after which the same is received, by the packet that it makes and the streams after it
   held_by : {h : List (Moment P Q)} (m : Moment P Q) {b : Side} {s : End P Q} → HeldAt p q es h b s → ((n : Stream) → sounds b n (h ++ (m ∷ [])) ≡ sounds b n h)
-      → (free : ℕ) (first : sending.Stream P) (second : sending.Stream Q)
+      → (free : ℕ) (first : sending.Outbound P) (second : sending.Outbound Q)
       → ((x : Packet P Q) → made_at b h (Some m) ≡ Some x → stream_of x.content ≡ Audio → AudioMade es x)
-      → ((w : Which) → Sends (meaning p q w) (inj P Q w) b w (h ++ (m ∷ [])) (out w (with_outs s free first second)))
+      → ((w : WhichKind) → Sends (meaning p q w) (inj P Q w) b w (h ++ (m ∷ [])) (out w (with_outs s free first second)))
       → HeldAt p q es (h ++ (m ∷ [])) b (with_outs s free first second)
   held_by m x same free first second of_audio of_kinds = record {
     profile_is = x.profile_is;
@@ -96,13 +96,13 @@ module _ {P Q : Type 0} {p : Meaning P} {q : Meaning Q} {es : List Entry} where
     hears_on m e n = sounds_stay h m a n (rw e refl)
 
     -- a call on the stream of a kind leaves that of the other kind as it was
-    on_lane : (m : Moment P Q) → arrival m ≡ None → (w : Which) (r : sending.Stream (Of P Q w))
+    on_lane : (m : Moment P Q) → arrival m ≡ None → (w : WhichKind) (r : sending.Outbound (Of P Q w))
         → ((y : Packet P Q) → made_at a h (Some m) ≡ Some y → stream_of y.content ≡ Messages w)
-        → ((v : Which) → same_kind w v ≡ false → events a v (h ++ (m ∷ [])) ≡ events a v h)
+        → ((v : WhichKind) → same_kind w v ≡ false → events a v (h ++ (m ∷ [])) ≡ events a v h)
         → Sends (meaning p q w) (inj P Q w) a w (h ++ (m ∷ [])) r → HeldAt p q es (h ++ (m ∷ [])) a (with_out w s r)
     on_lane m e w r stream others new =
         held_by m x (hears_on m e) s.audio_out _ _ (λ y i f. absurd (true≢false (ap (same_stream Audio) (sym f ∙ stream y i))))
-        (lane_by_lane sending.Stream w r s.first_out s.second_out (λ v. Sends (meaning p q v) (inj P Q v) a v (h ++ (m ∷ []))) new
+        (lane_by_lane sending.Outbound w r s.first_out s.second_out (λ v. Sends (meaning p q v) (inj P Q v) a v (h ++ (m ∷ []))) new
         (λ v f. idle m (x.sent.of_kinds v) (others v f)
         (λ y i g. true≢false (sym (kind_itself w) ∙ ap (same_stream (Messages w)) (sym (stream y i) ∙ g) ∙ f))))
 
@@ -125,14 +125,14 @@ module _ {P Q : Type 0} {p : Meaning P} {q : Meaning Q} {es : List Entry} where
           (λ y e f. true≢false (ap (same_stream Audio) (sym (made_audio y by_audio.0 refl (rw (itself a) at e)).0 ∙ f))))
 
     -- an event of a kind
-    module _ (w : Which) (t : ℕ) (y : Of P Q w) where
-      abbrev by_event : Result (Unit {0}) Refusal × sending.Stream (Of P Q w)
+    module _ (w : WhichKind) (t : ℕ) (y : Of P Q w) where
+      abbrev by_event : Result (Unit {0}) Refusal × sending.Outbound (Of P Q w)
       by_event = sending.event (out w s) t y
 
       abbrev me : Moment P Q
       me = record { side = a; call = event t (inj P Q w y); answer = by_event.0 }
 
-      other_kind : (v : Which) → same_kind w v ≡ false → events a v (h ++ (me ∷ [])) ≡ events a v h
+      other_kind : (v : WhichKind) → same_kind w v ≡ false → events a v (h ++ (me ∷ [])) ≡ events a v h
       other_kind v f = events_stay h me a v (rw (itself a) (none by_event.0))
         where
           none : (r : Result (Unit {0}) Refusal) → of_kind h me v (accepted (event t (inj P Q w y)) r) ≡ []
@@ -148,8 +148,8 @@ module _ {P Q : Type 0} {p : Meaning P} {q : Meaning Q} {es : List Entry} where
     held_event t (either.Second y) = event_lane Second t y
 
     -- what is due of a kind
-    module _ (w : Which) (t room : ℕ) where
-      abbrev by_due : Result (Option (List ℕ)) Refusal × sending.Stream (Of P Q w)
+    module _ (w : WhichKind) (t room : ℕ) where
+      abbrev by_due : Result (Option (List ℕ)) Refusal × sending.Outbound (Of P Q w)
       by_due = sending.due (meaning p q w) (out w s) t room
 
       abbrev md : Moment P Q
@@ -159,6 +159,6 @@ module _ {P Q : Type 0} {p : Meaning P} {q : Meaning Q} {es : List Entry} where
       due_lane = on_lane md refl w by_due.1 (due_kind (x.sent.of_kinds w) (kind_is P Q w) t room)
           (λ v f. brings_none h md a v refl) (due_on (x.sent.of_kinds w) (kind_is P Q w) t room)
 
-    pub held_due : (w : Which) (t room : ℕ) → HeldAt p q es (h ++ (record { side = a; call = due w t room; answer = (trunk.due p q s w t room).0 } ∷ [])) a (trunk.due p q s w t room).1
+    pub held_due : (w : WhichKind) (t room : ℕ) → HeldAt p q es (h ++ (record { side = a; call = due w t room; answer = (trunk.due p q s w t room).0 } ∷ [])) a (trunk.due p q s w t room).1
     held_due First t room = due_lane First t room
     held_due Second t room = due_lane Second t room

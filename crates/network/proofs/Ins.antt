@@ -6,12 +6,12 @@ use Rattle.std.proofs.lemmas.Bool.{leb-true, ltb-true, and_parts}
 use Rattle.std.proofs.lemmas.Option.{none-some, same_Some}
 use Rattle.refusal.specs.declared.Refusal.{Refusal}
 use Rattle.profile.specs.declared.entry.Entry.{Entry}
-use Rattle.placing.specs.declared.stream.Placed.{Placed}
-use Rattle.placing.specs.declared.stream.Moved.{Moved}
-use Rattle.placing.specs.declared.stream.Told.{Told}
-use Rattle.placing.specs.declared.stream.Told.TheVariants.{News, Repeat, Late}
+use Rattle.placing.specs.declared.stream.LatestNews.{LatestNews}
+use Rattle.placing.specs.declared.stream.Advance.{Advance}
+use Rattle.placing.specs.declared.stream.Novelty.{Novelty}
+use Rattle.placing.specs.declared.stream.Novelty.TheVariants.{News, Repeat, Late}
 use Rattle.placing.specs.Lists.{greatest}
-use Rattle.placing.specs.Placing.{told, placed_after}
+use Rattle.placing.specs.Placing.{novelty, latest_after}
 use Rattle.placing.specs.Arrivals.{Point, Tells, is_news}
 use Rattle.placing.proofs.Hearing.{Hears, Passed, Near, Next, next}
 use Rattle.trunk.specs.declared.answer.Arrived.{Arrived}
@@ -68,27 +68,27 @@ module _ {P Q : Type 0} where
   traced_stays {h} m {a} {y} r = record { from = r.from; made = packet_stays h m (other a) r.from y.packet r.made; order = λ t e. r.order t (come_before h m a t e) }
 
   -- a stream that is received holds the sound arrival with the latest time
-  pub record On (label : Packet P Q → ℕ) (turn unit : ℕ) (h : List (Moment P Q)) (a : Side) (stream : Stream) (placed : Option Placed) : Type 0 where
-    pub heard : Hears (point label) is_told turn unit (sounds a stream h) placed
+  pub record On (label : Packet P Q → ℕ) (turn unit : ℕ) (h : List (Moment P Q)) (a : Side) (stream : Stream) (last_news : Option LatestNews) : Type 0 where
+    pub heard : Hears (point label) is_told turn unit (sounds a stream h) last_news
     pub traced : (y : Sound P Q) → greatest made_for (sounds a stream h) ≡ Some y → Traced h a y
 
   pub new_on : (label : Packet P Q → ℕ) (turn unit : ℕ) (a : Side) (stream : Stream) → On label turn unit [] a stream None
   new_on label turn unit a stream = record { heard = refl; traced = λ y e. absurd (none-some y e) }
 
-  pub on_stays : {label : Packet P Q → ℕ} {turn unit : ℕ} {h : List (Moment P Q)} (m : Moment P Q) {a : Side} {stream : Stream} {placed : Option Placed}
-      → sounds a stream (h ++ (m ∷ [])) ≡ sounds a stream h → On label turn unit h a stream placed → On label turn unit (h ++ (m ∷ [])) a stream placed
+  pub on_stays : {label : Packet P Q → ℕ} {turn unit : ℕ} {h : List (Moment P Q)} (m : Moment P Q) {a : Side} {stream : Stream} {last_news : Option LatestNews}
+      → sounds a stream (h ++ (m ∷ [])) ≡ sounds a stream h → On label turn unit h a stream last_news → On label turn unit (h ++ (m ∷ [])) a stream last_news
   on_stays m e r = record { heard = rw e r.heard; traced = λ y f. traced_stays m (r.traced y (rw e at f)) }
 
   -- ---- answers
 
   -- what news of a packet names
-  abbrev pub naming : Content P Q → Result (Told Moved) Refusal → Option (Named P Q)
+  abbrev pub naming : Content P Q → Result (Novelty Advance) Refusal → Option (Named P Q)
   naming c (Ok (News n)) = Some (record { content = c; elapsed = n.elapsed })
   naming c (Ok Repeat) = None
   naming c (Ok Late) = None
   naming c (Err f) = None
 
-  some_naming : (c : Content P Q) (r : Result (Told Moved) Refusal) → is_some (naming c r) ≡ is_news r
+  some_naming : (c : Content P Q) (r : Result (Novelty Advance) Refusal) → is_some (naming c r) ≡ is_news r
   some_naming c r = grind (arith, common_steps)
 
   -- ---- an arrival at a side
@@ -104,15 +104,15 @@ module _ {P Q : Type 0} where
 
   -- The call m brings the sound arrival z on a stream: what is told of it is right, it leaves the other streams as they were, and on its own it is
   -- the one with the latest time where it is news.
-  pub record OneMore (label : Packet P Q → ℕ) (turn unit : ℕ) (h : List (Moment P Q)) (a : Side) (stream : Stream) (placed : Option Placed) (news : Bool) (m : Moment P Q)
+  pub record OneMore (label : Packet P Q → ℕ) (turn unit : ℕ) (h : List (Moment P Q)) (a : Side) (stream : Stream) (last_news : Option LatestNews) (news : Bool) (m : Moment P Q)
       (z : Sound P Q) : Type 0 where
     pub right : Right h z.arrival
     pub apart : (n : Stream) → same_stream stream n ≡ false → sounds a n (h ++ (m ∷ [])) ≡ sounds a n h
     pub leads : greatest made_for (sounds a stream (h ++ (m ∷ []))) ≡ cond news (Some z) (greatest made_for (sounds a stream h))
-    pub on_after : On label turn unit (h ++ (m ∷ [])) a stream placed
+    pub on_after : On label turn unit (h ++ (m ∷ [])) a stream last_news
 
-  module _ {label : Packet P Q → ℕ} {turn unit : ℕ} {h : List (Moment P Q)} {a : Side} {stream : Stream} {placed : Option Placed}
-      (on : On label turn unit h a stream placed) (es : List Entry) (t uui : ℕ) (o : List ℕ) (i : Option ℕ) (pk : Packet P Q) where
+  module _ {label : Packet P Q → ℕ} {turn unit : ℕ} {h : List (Moment P Q)} {a : Side} {stream : Stream} {last_news : Option LatestNews}
+      (on : On label turn unit h a stream last_news) (es : List Entry) (t uui : ℕ) (o : List ℕ) (i : Option ℕ) (pk : Packet P Q) where
     abbrev pub copying : Option (Named P Q) → Sound P Q
     copying n = record { arrival = arriving a t uui o i n; packet = pk }
 
@@ -128,11 +128,11 @@ module _ {P Q : Type 0} where
         ages = ltb-true _ turn (rw (is_sound n, stream_is, leads, span_is) at ages);
       }
 
-      abbrev pub answer : Result (Told Moved) Refusal
-      answer = told turn unit placed (label pk) t
+      abbrev pub answer : Result (Novelty Advance) Refusal
+      answer = novelty turn unit last_news (label pk) t
 
-      heard_next : Next (point label) is_told turn unit (sounds a stream h) placed (point label (copying None)) answer
-      heard_next = next (point label) is_told turn unit (sounds a stream h) placed (point label (copying None)) on.heard tells in_time near
+      heard_next : Next (point label) is_told turn unit (sounds a stream h) last_news (point label (copying None)) answer
+      heard_next = next (point label) is_told turn unit (sounds a stream h) last_news (point label (copying None)) on.heard tells in_time near
 
       since_of : (x : Option (Sound P Q)) (c : Option (Named P Q)) (n : ℕ) → Passed (point label) is_told turn unit x (point label (copying None)) n → Since x (copying c) n
       since_of None c n p = p
@@ -160,7 +160,7 @@ module _ {P Q : Type 0} where
         leads_after : greatest made_for (sounds a stream (h ++ (m ∷ []))) ≡ cond (is_news answer) (Some z) (greatest made_for (sounds a stream h))
         leads_after = ap (greatest made_for) grown ∙ heard_next.leads z refl
 
-        on_after : On label turn unit (h ++ (m ∷ [])) a stream (placed_after placed (label pk) t answer)
+        on_after : On label turn unit (h ++ (m ∷ [])) a stream (latest_after last_news (label pk) t answer)
         on_after = record {
           heard = rw grown (heard_next.hears z refl flag);
           traced = λ y e. by (is_news answer) y (sym leads_after ∙ e);
@@ -177,7 +177,7 @@ module _ {P Q : Type 0} where
           origin = λ n e. by n answer refl (sym names ∙ e);
         }
           where
-            by : (n : Named P Q) (x : Result (Told Moved) Refusal) → answer ≡ x → naming pk.content x ≡ Some n → Origin h (arriving a t uui o i (news_of r)) n
+            by : (n : Named P Q) (x : Result (Novelty Advance) Refusal) → answer ≡ x → naming pk.content x ≡ Some n → Origin h (arriving a t uui o i (news_of r)) n
             by n (Ok (News k)) is e =
                 let same = same_Some (record { content = pk.content; elapsed = k.elapsed }) n e in
                 record {
@@ -188,5 +188,5 @@ module _ {P Q : Type 0} where
                 }
             by n x is e = absurd (none-some n e)
 
-        pub one_more : OneMore label turn unit h a stream (placed_after placed (label pk) t answer) (is_news answer) m z
+        pub one_more : OneMore label turn unit h a stream (latest_after last_news (label pk) t answer) (is_news answer) m z
         one_more = record { apart = λ n e. sounds_stay h m a n (rw (is_now, on_which n, e) refl); leads = leads_after; on_after = on_after; right = right }

@@ -7,7 +7,7 @@ use Rattle.std.proofs.lemmas.List.Elements.{filter-append}
 use Rattle.type3.specs.declared.payload.Either.{Either}
 use Rattle.sending.specs.declared.event.Event.{Event}
 use Rattle.placing.proofs.Snoc.{gather_snoc}
-use Rattle.trunk.specs.declared.answer.Which.{Which}
+use Rattle.trunk.specs.declared.answer.WhichKind.{WhichKind}
 use Rattle.trunk.specs.declared.answer.Stream.{Stream}
 use Rattle.network.specs.declared.side.Side.{Side}
 use Rattle.network.specs.Names.{same_side, same_kind, kind_of, same_stream}
@@ -63,14 +63,14 @@ module _ {P Q : Type 0} (h : List (Moment P Q)) (m : Moment P Q) where
   abbrev pub accepted_at : Side → Option (Event (Either P Q))
   accepted_at side = cond (same_side side m.side) (accepted m.call m.answer) None
 
-  abbrev pub of_kind : Which → Option (Event (Either P Q)) → List (Event (Either P Q))
+  abbrev pub of_kind : WhichKind → Option (Event (Either P Q)) → List (Event (Either P Q))
   of_kind which o = filter (λ e. same_kind (kind_of e.message) which) (cons_option o [])
 
-  pub events_snoc : (side : Side) (which : Which) → events side which (h ++ (m ∷ [])) ≡ events side which h ++ of_kind which (accepted_at side)
+  pub events_snoc : (side : Side) (which : WhichKind) → events side which (h ++ (m ∷ [])) ≡ events side which h ++ of_kind which (accepted_at side)
   events_snoc side which = rw (gather_snoc, filter-append) refl
 
   -- a call that brings no event of a kind
-  pub events_stay : (side : Side) (which : Which) → of_kind which (accepted_at side) ≡ [] → events side which (h ++ (m ∷ [])) ≡ events side which h
+  pub events_stay : (side : Side) (which : WhichKind) → of_kind which (accepted_at side) ≡ [] → events side which (h ++ (m ∷ [])) ≡ events side which h
   events_stay side which e = events_snoc side which ∙ ap (λ es. events side which h ++ es) e ∙ append-nil (events side which h)
 
   -- ---- arrivals

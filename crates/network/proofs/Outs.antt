@@ -8,12 +8,12 @@ use Rattle.type3.specs.Kinds.{Meaning}
 use Rattle.type3.specs.declared.payload.Either.{Either}
 use Rattle.sending.specs.declared.event.Event.{Event}
 use Rattle.sending.specs.Sending as on
-use Rattle.sending.specs.Sending.{Stream, due_of, octets_of, due_questions, sent}
-use Rattle.sending.specs.declared.event.Packet.{Packet as Due}
+use Rattle.sending.specs.Sending.{Outbound, due_of, octets_of, due_questions, sent}
+use Rattle.sending.specs.declared.event.DuePacket.{DuePacket as Due}
 use Rattle.sending.specs.Runs as calls
-use Rattle.sending.specs.Runs.{Did, made, neither, did_event, did_due, does, step}
+use Rattle.sending.specs.Runs.{Outcome, made, neither, did_event, did_due, does, step}
 use Rattle.sending.proofs.Kept.{due_is}
-use Rattle.trunk.specs.declared.answer.Which.{Which}
+use Rattle.trunk.specs.declared.answer.WhichKind.{WhichKind}
 use Rattle.trunk.specs.declared.answer.Stream.TheVariants.{Messages}
 use Rattle.network.specs.declared.side.Side.{Side}
 use Rattle.network.specs.Names.{kind_of}
@@ -25,11 +25,11 @@ use Rattle.network.proofs.Longer.{of_kind, events_snoc, events_stay}
 use Rattle.network.proofs.Sends.{packet, brought, gave, Sends, on_stream, read_off}
 
 -- a call that brings no event
-pub brings_none : {P Q : Type 0} (h : List (Moment P Q)) (m : Moment P Q) (side : Side) (which : Which) → accepted m.call m.answer ≡ None
+pub brings_none : {P Q : Type 0} (h : List (Moment P Q)) (m : Moment P Q) (side : Side) (which : WhichKind) → accepted m.call m.answer ≡ None
     → events side which (h ++ (m ∷ [])) ≡ events side which h
 brings_none h m side which e = events_stay h m side which (grind (arith, common_steps))
 
-module _ {P Q M : Type 0} {k : Meaning M} {inj : M → Either P Q} {side : Side} {which : Which} {h : List (Moment P Q)} {s : Stream M}
+module _ {P Q M : Type 0} {k : Meaning M} {inj : M → Either P Q} {side : Side} {which : WhichKind} {h : List (Moment P Q)} {s : Outbound M}
     (held : Sends k inj side which h s) (kind_is : (m : M) → kind_of (inj m) ≡ which) where
   -- ---- an event
 
@@ -81,6 +81,6 @@ module _ {P Q M : Type 0} {k : Meaning M} {inj : M → Either P Q} {side : Side}
     pub due_kind : (y : Packet P Q) → made_at side h (Some due_moment) ≡ Some y → stream_of y.content ≡ Messages which
     due_kind y e = by (does k s (calls.due t room)) (makes y e)
       where
-        by : (d : Did M) → gave k inj d ≡ Some y → stream_of y.content ≡ Messages which
+        by : (d : Outcome M) → gave k inj d ≡ Some y → stream_of y.content ≡ Messages which
         by (made u d) g = ap (λ (z : Packet P Q). stream_of z.content) (sym (same_Some (packet k inj d) y g)) ∙ ap Messages (kind_is d.message)
         by d g = absurd (none-some y g)

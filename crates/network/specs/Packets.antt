@@ -8,7 +8,7 @@ use Rattle.type3.specs.declared.payload.Either.{Either}
 use Rattle.type3.specs.declared.payload.Either.TheVariants.{First, Second}
 use Rattle.sending.specs.declared.event.Event.{Event}
 use Rattle.placing.specs.Lists.{greatest, gather}
-use Rattle.trunk.specs.declared.answer.Which.{Which}
+use Rattle.trunk.specs.declared.answer.WhichKind.{WhichKind}
 use Rattle.trunk.specs.declared.answer.Arrived.{Arrived}
 use Rattle.trunk.specs.declared.answer.Arrived.TheVariants as arrived
 use Rattle.trunk.specs.declared.answer.Stream.{Stream}
@@ -60,13 +60,13 @@ module _ {P Q : Type 0} where
   accepted (arrive t uui octets copies) r = None
 
   -- the accepted events of a kind at a side
-  abbrev pub events : Side → Which → List (Moment P Q) → List (Event (Either P Q))
+  abbrev pub events : Side → WhichKind → List (Moment P Q) → List (Event (Either P Q))
   events side which h =
       filter (λ e. same_kind (kind_of e.message) which)
       (gather (λ before m. cond (same_side side m.side) (accepted m.call m.answer) None) [] h)
 
   -- the message that a side had at a time: of the events that it accepted, that of the latest up to then
-  abbrev pub had : Side → Which → ℕ → List (Moment P Q) → Option (Either P Q)
+  abbrev pub had : Side → WhichKind → ℕ → List (Moment P Q) → Option (Either P Q)
   had side which t h = had_of t (events side which h)
 
   -- ---- packets
@@ -102,9 +102,9 @@ module _ {P Q : Type 0} where
 
   -- what an answer names, if it is news
   abbrev pub named : Arrived P Q → Option (Named P Q)
-  named (arrived.Audio n) = Some (record { content = entry n.place; elapsed = n.moved.elapsed })
-  named (arrived.First n) = Some (record { content = message (First n.message); elapsed = n.moved.elapsed })
-  named (arrived.Second n) = Some (record { content = message (Second n.message); elapsed = n.moved.elapsed })
+  named (arrived.Audio n) = Some (record { content = entry n.place; elapsed = n.advance.elapsed })
+  named (arrived.First n) = Some (record { content = message (First n.message); elapsed = n.advance.elapsed })
+  named (arrived.Second n) = Some (record { content = message (Second n.message); elapsed = n.advance.elapsed })
   named (arrived.Repeat stream) = None
   named (arrived.Late stream) = None
 

@@ -4,7 +4,7 @@ use Rattle.refusal.specs.declared.Refusal.{Refusal}
 use Rattle.type3.specs.Kinds.{Meaning}
 use Rattle.type3.specs.declared.payload.Either.{Either}
 use Rattle.profile.specs.declared.entry.Entry.{Entry}
-use Rattle.trunk.specs.declared.answer.Which.{Which}
+use Rattle.trunk.specs.declared.answer.WhichKind.{WhichKind}
 use Rattle.trunk.specs.declared.answer.Arrived.{Arrived}
 use Rattle.trunk.specs.End as trunk
 use Rattle.trunk.specs.End.{End, started}
@@ -16,7 +16,7 @@ use Rattle.network.specs.declared.side.Side.TheVariants.{Near, Far}
 pub data Call (P Q : Type 0) : Type 0 where
   audio : ℕ → ℕ → List ℕ → Call P Q
   event : ℕ → Either P Q → Call P Q
-  due : Which → ℕ → ℕ → Call P Q
+  due : WhichKind → ℕ → ℕ → Call P Q
   arrive : ℕ → ℕ → List ℕ → Option ℕ → Call P Q
 
 -- what a call that is not refused answers: audio the label, event nothing more, due the octets written, if any, arrive what the

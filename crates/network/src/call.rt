@@ -1,8 +1,8 @@
 // The calls of a list, and what they are answered.
 use crate::side::Side;
 use refusal::Refusal;
-use trunk::{Arrived, Which};
-use type3::{LONGEST, Written};
+use trunk::{Arrived, WhichKind};
+use type3::{LONGEST, OctetBuffer};
 
 // A call on an end, with octets `O` and a message `M`. (They are type arguments, since an enum may not hold both a reference and
 // a struct that has a ghost field, as digits have.)
@@ -19,7 +19,7 @@ pub enum Call<O, M> {
     },
     // with so much room in the buffer
     Due {
-        which: Which,
+        which: WhichKind,
         time: u64,
         room: usize,
     },
@@ -44,6 +44,6 @@ pub struct Turn<O, M> {
 pub enum Answer<X, Y> {
     Audio(Result<u16, Refusal>),
     Event(Result<(), Refusal>),
-    Due(Result<Option<Written<LONGEST>>, Refusal>),
+    Due(Result<Option<OctetBuffer<LONGEST>>, Refusal>),
     Arrive(Result<Arrived<X, Y>, Refusal>),
 }

@@ -9,11 +9,11 @@ use Rattle.kinds.specs.declared.digit.Digit.{Digit}
 use Rattle.kinds.specs.declared.cas.CasBits.{CasBits}
 use Rattle.kinds.specs.Systems as systems
 use Rattle.kinds.specs.Cas.{octet}
-use Rattle.placing.specs.declared.stream.Moved.{Moved}
+use Rattle.placing.specs.declared.stream.Advance.{Advance}
 use Rattle.placing.specs.declared.receiver.Class.{Class}
 use Rattle.placing.specs.declared.receiver.Class.TheVariants.{Event, Confirmed, Recovered}
 use Rattle.placing.specs.declared.receiver.MessageNews.{MessageNews}
-use Rattle.trunk.specs.declared.answer.Which.TheVariants as which
+use Rattle.trunk.specs.declared.answer.WhichKind.TheVariants as which
 use Rattle.trunk.specs.declared.answer.Stream.{Stream}
 use Rattle.trunk.specs.declared.answer.Stream.TheVariants.{Audio, Messages}
 use Rattle.trunk.specs.declared.answer.Arrived.{Arrived}
@@ -33,7 +33,7 @@ of_force (Some (Second m)) = add 1 (octet m)
 of_force None = 0
 
 -- which stream moved how far
-abbrev pub of_moved : ℕ → Moved → ℕ
+abbrev pub of_moved : ℕ → Advance → ℕ
 of_moved stream m = add (add stream m.elapsed) m.position
 
 abbrev pub of_stream : Stream → ℕ
@@ -48,14 +48,14 @@ of_class Recovered = 2
 
 -- news of a message with this number
 abbrev pub of_news : {M : Type 0} → ℕ → MessageNews M → ℕ → ℕ
-of_news stream n message = add (add (add (of_moved stream n.moved) (of_class n.class)) n.redundancy) message
+of_news stream n message = add (add (add (of_moved stream n.advance) (of_class n.class)) n.redundancy) message
 
 abbrev pub of_refusal : Refusal → ℕ
 of_refusal f = add (number_of f) (unwrap_or (cause_of f) 0)
 
 -- an answer to an arrival
 abbrev pub of_answer : Result (Arrived Digit CasBits) Refusal → ℕ
-of_answer (Ok (arrived.Audio n)) = add (of_moved 10 n.moved) n.place
+of_answer (Ok (arrived.Audio n)) = add (of_moved 10 n.advance) n.place
 of_answer (Ok (arrived.First n)) = of_news 20 n (of_digit n.message)
 of_answer (Ok (arrived.Second n)) = of_news 30 n (octet n.message)
 of_answer (Ok (arrived.Repeat stream)) = of_stream stream + 1

@@ -4,9 +4,9 @@ ghost use Rattle.pace.specs.Checksum.{add, of_digit, of_force, of_moved, of_stre
 ghost use Rattle.kinds.specs.Cas.{octet};
 
 use kinds::{CasBits, Digit};
-use placing::{Class, MessageNews, Moved};
+use placing::{Advance, Class, MessageNews};
 use refusal::Refusal;
-use trunk::{Arrived, Stream, Which};
+use trunk::{Arrived, Stream, WhichKind};
 use type3::Either;
 
 /// The sum so far, and a further number.
@@ -32,7 +32,7 @@ pub fn of_answer(answer: Result<Arrived<Digit, CasBits>, Refusal>) -> u64
     ensures { result ≡ of_answer answer }
 {
     match answer {
-        Ok(Arrived::Audio(news)) => add(of_moved(10, news.moved), news.place as u64),
+        Ok(Arrived::Audio(news)) => add(of_moved(10, news.advance), news.place as u64),
         Ok(Arrived::First(news)) => of_news(20, &news, of_digit(&news.message)),
         Ok(Arrived::Second(news)) => of_news(30, &news, of_bits(news.message)),
         Ok(Arrived::Repeat(stream)) => of_stream(stream) + 1,
@@ -47,8 +47,8 @@ fn of_stream(stream: Stream) -> u64
 {
     match stream {
         Stream::Audio => 10,
-        Stream::Messages(Which::First) => 20,
-        Stream::Messages(Which::Second) => 30,
+        Stream::Messages(WhichKind::First) => 20,
+        Stream::Messages(WhichKind::Second) => 30,
     }
 }
 
@@ -56,16 +56,16 @@ fn of_stream(stream: Stream) -> u64
 fn of_news<T: Copy>(stream: u64, news: &MessageNews<T>, message: u64) -> u64
     ensures { result ≡ of_news stream news.now message }
 {
-    let moved = of_moved(stream, news.moved);
+    let advance = of_moved(stream, news.advance);
     let redundancy = u64::from(news.redundancy.get());
-    add(add(add(moved, of_class(news.class)), redundancy), message)
+    add(add(add(advance, of_class(news.class)), redundancy), message)
 }
 
 // Which stream moved how far.
-fn of_moved(stream: u64, moved: Moved) -> u64
-    ensures { result ≡ of_moved stream moved }
+fn of_moved(stream: u64, advance: Advance) -> u64
+    ensures { result ≡ of_moved stream advance }
 {
-    add(add(stream, moved.elapsed), moved.position)
+    add(add(stream, advance.elapsed), advance.position)
 }
 
 fn of_class(class: Class) -> u64

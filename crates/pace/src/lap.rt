@@ -3,7 +3,7 @@ use crate::checksum::{add, of_answer, of_force};
 use crate::list::List;
 use kinds::{Cas, Digits};
 use std::alloc::Global;
-use trunk::{SetUp, Which};
+use trunk::{SetUp, WhichKind};
 
 /// The checksum of the answers, and of what is in force at the end.
 pub fn lap(alloc: Global, list: &List) -> anyhow::Result<u64> {
@@ -15,6 +15,6 @@ pub fn lap(alloc: Global, list: &List) -> anyhow::Result<u64> {
         let answer = end.arrive(packet.time, packet.uui, packet.octets.as_slice());
         sum = add(sum, of_answer(answer));
     }
-    let sum = add(sum, of_force(end.in_force(Which::First)));
-    Ok(add(sum, of_force(end.in_force(Which::Second))))
+    let sum = add(sum, of_force(end.in_force(WhichKind::First)));
+    Ok(add(sum, of_force(end.in_force(WhichKind::Second))))
 }

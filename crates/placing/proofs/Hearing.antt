@@ -6,12 +6,12 @@ use Rattle.std.specs.List.{list_all, filter}
 use Rattle.std.proofs.lemmas.Bool.{lt-ltb, le-ltb, both_ways}
 use Rattle.std.specs.Option.{option_map}
 use Rattle.refusal.specs.declared.Refusal.{Refusal}
-use Rattle.placing.specs.declared.stream.Placed.{Placed}
-use Rattle.placing.specs.declared.stream.Moved.{Moved}
-use Rattle.placing.specs.declared.stream.Told.{Told}
-use Rattle.placing.specs.declared.stream.Told.TheVariants.{News, Repeat, Late}
+use Rattle.placing.specs.declared.stream.LatestNews.{LatestNews}
+use Rattle.placing.specs.declared.stream.Advance.{Advance}
+use Rattle.placing.specs.declared.stream.Novelty.{Novelty}
+use Rattle.placing.specs.declared.stream.Novelty.TheVariants.{News, Repeat, Late}
 use Rattle.placing.specs.Lists.{last, greatest}
-use Rattle.placing.specs.Placing.{told, placed_after}
+use Rattle.placing.specs.Placing.{novelty, latest_after}
 use Rattle.placing.specs.Arrivals.{Point, age, Tells, expected_beside, is_news}
 use Rattle.placing.proofs.Nearby.{Order, order, level_with, short, long}
 use Rattle.placing.proofs.Leader.{below, all_below, newer, greatest_snoc}
@@ -26,14 +26,14 @@ module _ {X : Type 0} (point : X → Point) (news : X → Bool) (span unit : ℕ
   latest_news xs = last (filter news xs)
 
   -- after these the stream holds y; start is the time that the first was made for
-  pub record Holds (start : ℕ) (before : List X) (s : Option Placed) (y : X) : Type 0 where
+  pub record Holds (start : ℕ) (before : List X) (s : Option LatestNews) (y : X) : Type 0 where
     pub leads : greatest time before ≡ Some y
     pub newest : latest_news before ≡ Some y
     pub begun : start ≤ time y
     pub tells : Tells span unit (point y)
     pub held : s ≡ Some (latest (point y) (time y - start))
 
-  abbrev pub Hears : List X → Option Placed → Type 0
+  abbrev pub Hears : List X → Option LatestNews → Type 0
   Hears [] s = s ≡ None
   Hears (first ∷ xs) s = (y : X) × Holds (time first) (first ∷ xs) s y
 
@@ -47,11 +47,11 @@ module _ {X : Type 0} (point : X → Point) (news : X → Bool) (span unit : ℕ
   Passed (Some y) x elapsed = time y + elapsed ≡ x.time
 
   -- the arrival x is answered by r, and z is what is then kept of it
-  pub record Next (before : List X) (s : Option Placed) (x : Point) (r : Result (Told Moved) Refusal) : Type 0 where
+  pub record Next (before : List X) (s : Option LatestNews) (x : Point) (r : Result (Novelty Advance) Refusal) : Type 0 where
     pub as_expected : r ≡ expected_beside (start_of before) (option_map point (greatest time before)) x
     pub exactly : is_news r ≡ list_all (λ b. ltb (time b) x.time) before
-    pub since : (n : Moved) → r ≡ Ok (News n) → Passed (latest_news before) x n.elapsed
-    pub hears : (z : X) → point z ≡ x → news z ≡ is_news r → Hears (before ++ (z ∷ [])) (placed_after s x.label x.arrival r)
+    pub since : (n : Advance) → r ≡ Ok (News n) → Passed (latest_news before) x n.elapsed
+    pub hears : (z : X) → point z ≡ x → news z ≡ is_news r → Hears (before ++ (z ∷ [])) (latest_after s x.label x.arrival r)
     pub leads : (z : X) → point z ≡ x → greatest time (before ++ (z ∷ [])) ≡ cond (is_news r) (Some z) (greatest time before)
 
   first_one : (x : Point) → Tells span unit x → Next [] None x (Ok (News (record { elapsed = 0; position = 0 })))
@@ -72,7 +72,7 @@ module _ {X : Type 0} (point : X → Point) (news : X → Bool) (span unit : ℕ
     leads = λ z e. refl;
   }
 
-  module _ (first : X) (xs : List X) (s : Option Placed) (y : X) (h : Holds (time first) (first ∷ xs) s y) (x : Point) where
+  module _ (first : X) (xs : List X) (s : Option LatestNews) (y : X) (h : Holds (time first) (first ∷ xs) s y) (x : Point) where
     later : list_all (λ b. ltb (time b) x.time) (first ∷ xs) ≡ ltb (time y) x.time
     later = all_below time (first ∷ xs) x.time ∙ ap (λ o. below time o x.time) h.leads
 
@@ -112,8 +112,8 @@ module _ {X : Type 0} (point : X → Point) (news : X → Bool) (span unit : ℕ
         }
 
     -- made for no later time, it leaves the stream as it was
-    is_still : (r : Result (Told Moved) Refusal) → x.time ≤ time y → expected_beside (time first) (Some (point y)) x ≡ r → is_news r ≡ false
-        → placed_after s x.label x.arrival r ≡ s → Next (first ∷ xs) s x r
+    is_still : (r : Result (Novelty Advance) Refusal) → x.time ≤ time y → expected_beside (time first) (Some (point y)) x ≡ r → is_news r ≡ false
+        → latest_after s x.label x.arrival r ≡ s → Next (first ∷ xs) s x r
     is_still r l is quiet stays =
         let t = le-ltb (time y) x.time l in
         record {
@@ -134,15 +134,15 @@ module _ {X : Type 0} (point : X → Point) (news : X → Bool) (span unit : ℕ
         }
 
     one_more : Tells span unit x → (point y).arrival ≤ x.arrival → 2 * nat_abs (age x -ℤ age (point y)) < span → x.time ≤ 1099511627775
-        → Next (first ∷ xs) s x (told span unit s x.label x.arrival)
+        → Next (first ∷ xs) s x (novelty span unit s x.label x.arrival)
     one_more tx arrivals ages in_time = by (order (time y) x.time)
       where
-        is : told span unit s x.label x.arrival ≡ expected_beside (time first) (Some (point y)) x
+        is : novelty span unit s x.label x.arrival ≡ expected_beside (time first) (Some (point y)) x
         is =
-            ap (λ o. told span unit o x.label x.arrival) h.held
+            ap (λ o. novelty span unit o x.label x.arrival) h.held
             ∙ told_rightly span unit (time first) (point y) x h.tells tx arrivals ages h.begun in_time
 
-        by : Order (time y) x.time → Next (first ∷ xs) s x (told span unit s x.label x.arrival)
+        by : Order (time y) x.time → Next (first ∷ xs) s x (novelty span unit s x.label x.arrival)
         by (short m e) =
             let l : time y < x.time = omega arith in
             subst (Next (first ∷ xs) s x) (sym (is ∙ later_is (time first) (point y) x l)) (is_newer tx l)
@@ -159,8 +159,8 @@ module _ {X : Type 0} (point : X → Point) (news : X → Bool) (span unit : ℕ
     pub ages : 2 * nat_abs (age x -ℤ age (point y)) < span
 
   -- one more arrival on a stream, beside the one with the latest time, if there is one
-  pub next : (before : List X) (s : Option Placed) (x : Point) → Hears before s → Tells span unit x → x.time ≤ 1099511627775
-      → ((y : X) → greatest time before ≡ Some y → Near y x) → Next before s x (told span unit s x.label x.arrival)
-  next [] s x e tx in_time near = subst (λ o. Next [] o x (told span unit o x.label x.arrival)) (sym e) (first_one x tx)
+  pub next : (before : List X) (s : Option LatestNews) (x : Point) → Hears before s → Tells span unit x → x.time ≤ 1099511627775
+      → ((y : X) → greatest time before ≡ Some y → Near y x) → Next before s x (novelty span unit s x.label x.arrival)
+  next [] s x e tx in_time near = subst (λ o. Next [] o x (novelty span unit o x.label x.arrival)) (sym e) (first_one x tx)
   next (first ∷ xs) s x h tx in_time near =
       let n = near h.0 h.1.leads in one_more first xs s h.0 h.1 x tx n.order n.ages in_time

@@ -6,9 +6,9 @@ use Rattle.std.specs.Option.{option_or, option_map}
 use Rattle.refusal.specs.declared.Refusal.{Refusal}
 use Rattle.type3.specs.Kinds.{Meaning}
 use Rattle.type3.specs.declared.payload.Payload.{Payload}
-use Rattle.placing.specs.declared.stream.Placed.{Placed}
-use Rattle.placing.specs.declared.stream.Moved.{Moved}
-use Rattle.placing.specs.declared.stream.Told.{Told}
+use Rattle.placing.specs.declared.stream.LatestNews.{LatestNews}
+use Rattle.placing.specs.declared.stream.Advance.{Advance}
+use Rattle.placing.specs.declared.stream.Novelty.{Novelty}
 use Rattle.placing.specs.Lists.{last}
 use Rattle.placing.specs.Placing.{place}
 use Rattle.placing.specs.Receiving.{Inbound, new_receiver, receive_by, receive}
@@ -25,9 +25,9 @@ one_more f x xs o b = grind (arith, common_steps)
 
 module _ {M : Type 0} (k : Meaning M) where
   -- one arrival puts its message in force where it is news
-  forced : (s : Inbound M) (x : Payload M) (r : Result (Told Moved) Refusal) (placed : Option Placed)
-      → (receive_by k s x r placed).1.force ≡ cond (is_news (receive_by k s x r placed).0) (Some x.message) s.force
-  forced s x r placed = grind (arith, common_steps)
+  forced : (s : Inbound M) (x : Payload M) (r : Result (Novelty Advance) Refusal) (last_news : Option LatestNews)
+      → (receive_by k s x r last_news).1.force ≡ cond (is_news (receive_by k s x r last_news).0) (Some x.message) s.force
+  forced s x r last_news = grind (arith, common_steps)
 
   abbrev latest_of : List (Heard k) → Option M
   latest_of hs = option_map (λ h. h.arrival.says.message) (last (filter (λ h. is_news h.answer) hs))
@@ -35,7 +35,7 @@ module _ {M : Type 0} (k : Meaning M) where
   from : (s : Inbound M) (xs : List (Arrival k)) → (after k s xs).force ≡ option_or (latest_of (heard k s xs)) s.force
   from s [] = refl
   from s (x ∷ xs) =
-      let p = place 16384 1 s.placed x.says.stamp x.time in
+      let p = place 16384 1 s.last_news x.says.stamp x.time in
       let r = receive k s x.time x.says in
       let h : Heard k = record { arrival = x; answer = r.0 } in
       from r.1 xs

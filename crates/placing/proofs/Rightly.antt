@@ -6,12 +6,12 @@ use Rattle.std.proofs.lemmas.Bool.{ltb-true, leb-true, and_parts}
 use Rattle.std.specs.Option.{option_map}
 use Rattle.refusal.specs.Questions.{is_time}
 use Rattle.refusal.specs.declared.Refusal.{Refusal}
-use Rattle.placing.specs.declared.stream.Placed.{Placed}
-use Rattle.placing.specs.declared.stream.Moved.{Moved}
-use Rattle.placing.specs.declared.stream.Told.{Told}
-use Rattle.placing.specs.declared.stream.Told.TheVariants.{News}
+use Rattle.placing.specs.declared.stream.LatestNews.{LatestNews}
+use Rattle.placing.specs.declared.stream.Advance.{Advance}
+use Rattle.placing.specs.declared.stream.Novelty.{Novelty}
+use Rattle.placing.specs.declared.stream.Novelty.TheVariants.{News}
 use Rattle.placing.specs.Lists.{greatest, everywhere, Everywhere}
-use Rattle.placing.specs.Placing.{told, placed_after}
+use Rattle.placing.specs.Placing.{novelty, latest_after}
 use Rattle.placing.specs.Arrivals.{Point, age, Tells, Moment, history, near_age, aged, in_order, expected_beside, expected, start_of}
 use Rattle.placing.specs.Arrivals.{is_news, points, Since, PlacesRightly}
 use Rattle.placing.proofs.Leader.{greatest_passes}
@@ -25,7 +25,7 @@ point m = m.point
 abbrev news : Moment → Bool
 news m = is_news m.answer
 
-abbrev moment : Point → Result (Told Moved) Refusal → Moment
+abbrev moment : Point → Result (Novelty Advance) Refusal → Moment
 moment x r = record { point = x; answer = r }
 
 module _ (span unit : ℕ) where
@@ -41,8 +41,8 @@ module _ (span unit : ℕ) where
       ap (λ n. expected_beside n (option_map point (greatest (λ m. m.point.time) before)) x) (starts before)
       ∙ ap (λ o. expected_beside (start_of (points before)) o x) (sym (greatest_point before))
 
-  since_of : (o : Option Moment) (x : Point) (r : Result (Told Moved) Refusal)
-      → ((n : Moved) → r ≡ Ok (News n) → Passed point news span unit o x n.elapsed) → Since o x r
+  since_of : (o : Option Moment) (x : Point) (r : Result (Novelty Advance) Refusal)
+      → ((n : Advance) → r ≡ Ok (News n) → Passed point news span unit o x n.elapsed) → Since o x r
   since_of None x r p = tt
   since_of (Some m) x r p = p
 
@@ -62,19 +62,19 @@ module _ (span unit : ℕ) where
     exactly : Everywhere (λ before m. is_news m.answer ≡ list_all (λ b. ltb b.point.time m.point.time) before) before ms
     since : Everywhere (λ before m. Since (latest_news point news span unit before) m.point m.answer) before ms
 
-  rest : (xs : List Point) (before : List Moment) (s : Option Placed) → Hears point news span unit before s
+  rest : (xs : List Point) (before : List Moment) (s : Option LatestNews) → Hears point news span unit before s
       → Everywhere (λ before x. Tells span unit x) (points before) xs → everywhere in_order (points before) xs ≡ true
       → everywhere (aged span) (points before) xs ≡ true → Rest before (history span unit s xs)
   rest [] before s h tells ordered ages = record { as_expected = tt; exactly = tt; since = tt }
   rest (x ∷ xs) before s h tells ordered ages =
-      let r = told span unit s x.label x.arrival in
+      let r = novelty span unit s x.label x.arrival in
       let m = moment x r in
       let e = points_snoc before m in
       let o = and_parts (in_order (points before) x) (everywhere in_order (points before ++ (x ∷ [])) xs) ordered in
       let a = and_parts (aged span (points before) x) (everywhere (aged span) (points before ++ (x ∷ [])) xs) ages in
       let t = and_parts (is_time x.time) (list_all (λ z. leb z.arrival x.arrival) (points before)) o.0 in
       let n = next point news span unit before s x h tells.0 (leb-true x.time 1099511627775 t.0) (beside_leader before x o.0 a.0) in
-      let more = rest xs (before ++ (m ∷ [])) (placed_after s x.label x.arrival r) (n.hears m refl refl)
+      let more = rest xs (before ++ (m ∷ [])) (latest_after s x.label x.arrival r) (n.hears m refl refl)
       (subst (λ l. Everywhere (λ before x. Tells span unit x) l xs) (sym e) tells.1)
       (ap (λ l. everywhere in_order l xs) e ∙ o.1)
       (ap (λ l. everywhere (aged span) l xs) e ∙ a.1) in

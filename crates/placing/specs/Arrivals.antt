@@ -6,10 +6,10 @@ use Rattle.std.specs.List.{list_all, filter}
 use Rattle.refusal.specs.Questions.{is_time}
 use Rattle.refusal.specs.declared.Refusal.{Refusal}
 use Rattle.type3.specs.Stamps.{stamp_modulus}
-use Rattle.placing.specs.declared.stream.Placed.{Placed}
-use Rattle.placing.specs.declared.stream.Moved.{Moved}
-use Rattle.placing.specs.declared.stream.Told.{Told}
-use Rattle.placing.specs.declared.stream.Told.TheVariants.{News, Repeat, Late}
+use Rattle.placing.specs.declared.stream.LatestNews.{LatestNews}
+use Rattle.placing.specs.declared.stream.Advance.{Advance}
+use Rattle.placing.specs.declared.stream.Novelty.{Novelty}
+use Rattle.placing.specs.declared.stream.Novelty.TheVariants.{News, Repeat, Late}
 use Rattle.placing.specs.Lists.{last, greatest, everywhere, Everywhere}
 use Rattle.placing.specs.Nearest.{Agrees, labels_apart, nearest}
 use Rattle.placing.specs.Placing.{place}
@@ -53,10 +53,10 @@ PlacedWhereMade =
 
 pub record Moment : Type 0 where
   pub point : Point
-  pub answer : Result (Told Moved) Refusal
+  pub answer : Result (Novelty Advance) Refusal
 
 -- each arrival with its answer, in order
-abbrev pub history : ℕ → ℕ → Option Placed → List Point → List Moment
+abbrev pub history : ℕ → ℕ → Option LatestNews → List Point → List Moment
 history span unit s [] = []
 history span unit s (x ∷ xs) =
     let r = place span unit s x.label x.arrival in
@@ -76,7 +76,7 @@ abbrev pub in_order : List Point → Point → Bool
 in_order before x = is_time x.time && list_all (λ y. nat_le y.arrival x.arrival) before
 
 -- what an arrival is to be answered, beside those before it: the first of them, and the one with the latest time
-abbrev pub expected_beside : ℕ → Option Point → Point → Result (Told Moved) Refusal
+abbrev pub expected_beside : ℕ → Option Point → Point → Result (Novelty Advance) Refusal
 expected_beside start None x = Ok (News (record { elapsed = 0; position = 0 }))
 expected_beside start (Some y) x =
     cond (nat_lt y.time x.time) (Ok (News (record { elapsed = x.time - y.time; position = x.time - start })))
@@ -86,10 +86,10 @@ abbrev pub start_of : List Point → ℕ
 start_of [] = 0
 start_of (x ∷ xs) = x.time
 
-abbrev pub expected : List Point → Point → Result (Told Moved) Refusal
+abbrev pub expected : List Point → Point → Result (Novelty Advance) Refusal
 expected before x = expected_beside (start_of before) (greatest (λ y. y.time) before) x
 
-abbrev pub is_news : {N : Type 0} → Result (Told N) Refusal → Bool
+abbrev pub is_news : {N : Type 0} → Result (Novelty N) Refusal → Bool
 is_news (Ok (News n)) = true
 is_news (Ok Repeat) = false
 is_news (Ok Late) = false
@@ -100,9 +100,9 @@ points [] = []
 points (m ∷ ms) = m.point ∷ points ms
 
 -- the time since the latest news before, if there was any
-abbrev pub Since : Option Moment → Point → Result (Told Moved) Refusal → Type 0
+abbrev pub Since : Option Moment → Point → Result (Novelty Advance) Refusal → Type 0
 Since None x r = Unit {0}
-Since (Some m) x r = (n : Moved) → r ≡ Ok (News n) → m.point.time + n.elapsed ≡ x.time
+Since (Some m) x r = (n : Advance) → r ≡ Ok (News n) → m.point.time + n.elapsed ≡ x.time
 
 pub record PlacedRightly (ms : List Moment) : Type 0 where
   -- each answer is the one that the times tell

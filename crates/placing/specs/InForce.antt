@@ -5,7 +5,7 @@ use Rattle.std.specs.Option.{option_map}
 use Rattle.refusal.specs.declared.Refusal.{Refusal}
 use Rattle.type3.specs.Kinds.{Meaning}
 use Rattle.type3.specs.declared.payload.Payload.{Payload}
-use Rattle.placing.specs.declared.stream.Told.{Told}
+use Rattle.placing.specs.declared.stream.Novelty.{Novelty}
 use Rattle.placing.specs.declared.receiver.MessageNews.{MessageNews}
 use Rattle.placing.specs.Lists.{last}
 use Rattle.placing.specs.Arrivals.{is_news}
@@ -19,7 +19,7 @@ module _ {M : Type 0} (k : Meaning M) where
 
   pub record Heard : Type 0 where
     pub arrival : Arrival
-    pub answer : Result (Told (MessageNews M)) Refusal
+    pub answer : Result (Novelty (MessageNews M)) Refusal
 
   abbrev pub heard : Inbound M → List Arrival → List Heard
   heard s [] = []

@@ -4,10 +4,10 @@ use Rattle.refusal.specs.declared.Refusal.{Refusal}
 use Rattle.type3.specs.Kinds.{Meaning}
 use Rattle.type3.specs.Stamps.{stamp_modulus}
 use Rattle.type3.specs.declared.payload.Payload.{Payload}
-use Rattle.placing.specs.declared.stream.Placed.{Placed}
-use Rattle.placing.specs.declared.stream.Moved.{Moved}
-use Rattle.placing.specs.declared.stream.Told.{Told}
-use Rattle.placing.specs.declared.stream.Told.TheVariants.{News, Repeat, Late}
+use Rattle.placing.specs.declared.stream.LatestNews.{LatestNews}
+use Rattle.placing.specs.declared.stream.Advance.{Advance}
+use Rattle.placing.specs.declared.stream.Novelty.{Novelty}
+use Rattle.placing.specs.declared.stream.Novelty.TheVariants.{News, Repeat, Late}
 use Rattle.placing.specs.declared.receiver.Class.{Class}
 use Rattle.placing.specs.declared.receiver.Class.TheVariants.{Event, Confirmed, Recovered}
 use Rattle.placing.specs.declared.receiver.MessageNews.{MessageNews}
@@ -21,12 +21,12 @@ text_of Recovered = codes "recovered"
 
 -- The receiving half of a message stream: the latest news, and the message in force.
 pub record Inbound (M : Type 0) : Type 0 where
-  pub placed : Option Placed
+  pub last_news : Option LatestNews
   pub force : Option M
 
 module _ {M : Type 0} where
   abbrev pub new_receiver : Inbound M
-  new_receiver = record { placed = None; force = None }
+  new_receiver = record { last_news = None; force = None }
 
   module _ (k : Meaning M) where
     -- whether a message is in force already
@@ -38,23 +38,23 @@ module _ {M : Type 0} where
     abbrev pub class_of : Option M → Payload M → Class
     class_of force x = cond (nat_lt x.redundancy 3) Event (cond (in_force force x.message) Confirmed Recovered)
 
-    abbrev pub told_as : Option M → Payload M → Told Moved → Told (MessageNews M)
-    told_as force x (News m) =
-        News (record { class = class_of force x; redundancy = x.redundancy; moved = m; message = x.message })
-    told_as force x Repeat = Repeat
-    told_as force x Late = Late
+    abbrev pub novelty_as : Option M → Payload M → Novelty Advance → Novelty (MessageNews M)
+    novelty_as force x (News m) =
+        News (record { class = class_of force x; redundancy = x.redundancy; advance = m; message = x.message })
+    novelty_as force x Repeat = Repeat
+    novelty_as force x Late = Late
 
     -- the message of news is in force then
-    abbrev pub force_after : Option M → M → Told Moved → Option M
+    abbrev pub force_after : Option M → M → Novelty Advance → Option M
     force_after force m (News n) = Some m
     force_after force m Repeat = force
     force_after force m Late = force
 
-    abbrev pub receive_by : Inbound M → Payload M → Result (Told Moved) Refusal → Option Placed
-        → Result (Told (MessageNews M)) Refusal × Inbound M
-    receive_by s x (Err f) placed = (Err f, s)
-    receive_by s x (Ok n) placed = (Ok (told_as s.force x n), record { placed = placed; force = force_after s.force x.message n })
+    abbrev pub receive_by : Inbound M → Payload M → Result (Novelty Advance) Refusal → Option LatestNews
+        → Result (Novelty (MessageNews M)) Refusal × Inbound M
+    receive_by s x (Err f) last_news = (Err f, s)
+    receive_by s x (Ok n) last_news = (Ok (novelty_as s.force x n), record { last_news = last_news; force = force_after s.force x.message n })
 
     -- what a payload that was read says, arriving at a time
-    abbrev pub receive : Inbound M → ℕ → Payload M → Result (Told (MessageNews M)) Refusal × Inbound M
-    receive s a x = let p = place stamp_modulus 1 s.placed x.stamp a in receive_by s x p.0 p.1
+    abbrev pub receive : Inbound M → ℕ → Payload M → Result (Novelty (MessageNews M)) Refusal × Inbound M
+    receive s a x = let p = place stamp_modulus 1 s.last_news x.stamp a in receive_by s x p.0 p.1

@@ -8,4 +8,4 @@ mod stream;
 
 pub use receiver::{Class, MessageNews, Receiver};
 pub use span::{Labelling, Span};
-pub use stream::{Moved, Placed, Stream, Told};
+pub use stream::{Advance, LatestNews, Novelty, Timeline};

@@ -4,7 +4,7 @@ ghost use Rattle.placing.specs.Receiving.{text_of, new_receiver, class_of, recei
 ghost use Rattle.placing.specs.InForce.{InForceIsTheLatestNews};
 
 use crate::span::Labelling;
-use crate::stream::{Moved, Stream, Told};
+use crate::stream::{Advance, Novelty, Timeline};
 use refusal::{Refusal, Time};
 use std::fmt;
 use std::marker::Model;
@@ -42,7 +42,7 @@ pub struct MessageNews<T> {
     /// which copy was heard, or that it was a refresh
     pub redundancy: Redundancy,
     /// the time since the news before, and since the first news
-    pub moved: Moved,
+    pub advance: Advance,
     /// the message, which is in force now
     pub message: T,
 }
@@ -50,7 +50,7 @@ pub struct MessageNews<T> {
 /// The receiving half of a message stream of a kind. In contracts it is its latest news, and the message in force.
 #[derive(Drop)]
 pub struct Receiver<K: Kind> {
-    stream: Stream,
+    stream: Timeline,
     force: Option<K::Message>,
 }
 
@@ -59,7 +59,7 @@ impl<K: Kind> Model for Receiver<K> {
 
     ghost Value = { Inbound K.Message };
 
-    ghost view = { λ r. record { placed = r.stream; force = r.force } };
+    ghost view = { λ r. record { last_news = r.stream; force = r.force } };
 }
 
 impl<K: Kind> Receiver<K> {
@@ -69,7 +69,7 @@ impl<K: Kind> Receiver<K> {
         ensures force { InForceIsTheLatestNews K.Kind.model }
     {
         Receiver {
-            stream: Stream::new(),
+            stream: Timeline::new(),
             force: None,
         }
     }
@@ -89,24 +89,24 @@ impl<K: Kind> Receiver<K> {
         &mut self,
         time: Time,
         payload: Payload<K::Message>,
-    ) -> Result<Told<MessageNews<K::Message>>, Refusal>
+    ) -> Result<Novelty<MessageNews<K::Message>>, Refusal>
         ensures value { result ≡ (receive K.Kind.model self.old time payload).0 }
         ensures after { self.new ≡ (receive K.Kind.model self.old time payload).1 }
         ensures unchanged { IfErr result (λ _. self.new ≡ self.old) }
     {
-        let told = self
+        let novelty = self
             .stream
             .place(Labelling::of_stamps(), payload.stamp.get(), time)?;
-        let told = told.map(|moved| MessageNews {
+        let novelty = novelty.map(|advance| MessageNews {
             class: self.class_of(payload),
             redundancy: payload.redundancy,
-            moved,
+            advance,
             message: payload.message,
         });
-        if let Told::News(_) = told {
+        if let Novelty::News(_) = novelty {
             self.force = Some(payload.message);
         }
-        Ok(told)
+        Ok(novelty)
     }
 
     fn class_of(&self, payload: Payload<K::Message>) -> Class

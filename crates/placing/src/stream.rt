@@ -10,7 +10,7 @@ use std::marker::Model;
 
 /// The latest news of a stream: its label, when it arrived, and the time since the first news.
 #[derive(Clone, Copy, Debug, PartialEq, Eq)]
-pub struct Placed {
+pub struct LatestNews {
     /// its label: a stamp, or a UUI as a receiver takes it
     pub label: u16,
     /// when it arrived, in milliseconds
@@ -21,7 +21,7 @@ pub struct Placed {
 
 /// What an arrival is on its stream.
 #[derive(Clone, Copy, Debug, PartialEq, Eq)]
-pub enum Told<T> {
+pub enum Novelty<T> {
     /// the elapsed time is above 0, or nothing was news before
     News(T),
     /// it is 0: made for the same time as the latest news
@@ -30,16 +30,16 @@ pub enum Told<T> {
     Late,
 }
 
-impl<T> Told<T> {
+impl<T> Novelty<T> {
     /// News is changed by a function, all else stays.
-    pub fn map<U, F: FnOnce(T) -> U>(self, change: F) -> Told<U>
+    pub fn map<U, F: FnOnce(T) -> U>(self, change: F) -> Novelty<U>
         requires { IfNews self (F.pre change) }
         ensures { Changed (F.post change) self result }
     {
         match self {
-            Told::News(news) => Told::News(change(news)),
-            Told::Repeat => Told::Repeat,
-            Told::Late => Told::Late,
+            Novelty::News(news) => Novelty::News(change(news)),
+            Novelty::Repeat => Novelty::Repeat,
+            Novelty::Late => Novelty::Late,
         }
     }
 }
@@ -47,7 +47,7 @@ impl<T> Told<T> {
 /// How far news moved its stream, in milliseconds.
 // (Numbers, as a host reads them.)
 #[derive(Clone, Copy, Debug, PartialEq, Eq)]
-pub struct Moved {
+pub struct Advance {
     /// since the news before
     pub elapsed: u64,
     /// since the first news
@@ -56,31 +56,31 @@ pub struct Moved {
 
 /// A stream holds its latest news, if there was any. In contracts it is that.
 #[derive(Clone, Copy, Debug, PartialEq, Eq)]
-pub struct Stream {
-    pub(crate) latest: Option<Placed>,
+pub struct Timeline {
+    pub(crate) latest: Option<LatestNews>,
 }
 
-impl Model for Stream {
+impl Model for Timeline {
     ghost use Rattle.std.specs.Prelude.{Option};
-    ghost use Rattle.placing.specs.declared.stream.Placed.{Placed};
+    ghost use Rattle.placing.specs.declared.stream.LatestNews.{LatestNews};
 
-    ghost Value = { Option Placed };
+    ghost Value = { Option LatestNews };
 
     ghost view = { λ s. s.latest };
 
     ghost inverse = { λ latest. record { latest = latest } };
 }
 
-impl Stream {
+impl Timeline {
     /// A new stream. Its laws: labels tell the time, and every list of arrivals on it is placed rightly.
-    pub fn new() -> Stream
+    pub fn new() -> Timeline
         ensures latest { result ≡ None }
         ensures stamps { StampsTell }
         ensures labels { LabelsTell }
-        ensures placed { PlacedWhereMade }
+        ensures last_news { PlacedWhereMade }
         ensures rightly { PlacesRightly }
     {
-        Stream { latest: None }
+        Timeline { latest: None }
     }
 
     /// An arrival with this label, at a time.
@@ -92,34 +92,34 @@ impl Stream {
         labelling: Labelling,
         label: u16,
         time: Time,
-    ) -> Result<Told<Moved>, Refusal>
+    ) -> Result<Novelty<Advance>, Refusal>
         ensures value { result ≡ (place labelling.span labelling.unit self.old label time).0 }
         ensures after { self.new ≡ (place labelling.span labelling.unit self.old label time).1 }
         ensures unchanged { IfErr result (λ _. self.new ≡ self.old) }
     {
-        let told = beside(labelling, self.latest, label, time)?;
-        if let Told::News(moved) = told {
-            self.latest = Some(Placed {
+        let novelty = novelty_beside(labelling, self.latest, label, time)?;
+        if let Novelty::News(advance) = novelty {
+            self.latest = Some(LatestNews {
                 label,
                 arrival: time.get(),
-                position: moved.position,
+                position: advance.position,
             });
         }
-        Ok(told)
+        Ok(novelty)
     }
 }
 
 // What the arrival is, beside the latest news.
-fn beside(
+fn novelty_beside(
     labelling: Labelling,
-    latest: Option<Placed>,
+    latest: Option<LatestNews>,
     label: u16,
     time: Time,
-) -> Result<Told<Moved>, Refusal>
+) -> Result<Novelty<Advance>, Refusal>
     ensures { result ≡ (place labelling.span labelling.unit latest label time).0 }
 {
     let Some(before) = latest else {
-        return Ok(Told::News(Moved {
+        return Ok(Novelty::News(Advance {
             elapsed: 0,
             position: 0,
         }));
@@ -132,19 +132,19 @@ fn beside(
 }
 
 // The sign of the elapsed time decides.
-fn by_sign(position: u64, elapsed: i64) -> Result<Told<Moved>, Refusal>
+fn by_sign(position: u64, elapsed: i64) -> Result<Novelty<Advance>, Refusal>
     ensures { result ≡ by_sign position elapsed }
 {
     match elapsed {
-        i64::MIN..=-1 => Ok(Told::Late),
-        0 => Ok(Told::Repeat),
+        i64::MIN..=-1 => Ok(Novelty::Late),
+        0 => Ok(Novelty::Repeat),
         _ => {
             let elapsed = elapsed as u64;
             let position = position
                 .checked_add(elapsed)
                 .filter(|position| is_time(*position))
                 .ok_or(PlacingFault::PositionOutOfRange)?;
-            Ok(Told::News(Moved { elapsed, position }))
+            Ok(Novelty::News(Advance { elapsed, position }))
         }
     }
 }

@@ -1,6 +1,6 @@
 //! An entry of a profile.
 ghost use Rattle.std.specs.Prelude.{◌≡◌};
-ghost use Rattle.profile.specs.Questions.{width, in_range, good_length, aligned, good_times, share};
+ghost use Rattle.profile.specs.Questions.{width, in_range, good_length, is_aligned, good_times, share};
 ghost use Rattle.profile.specs.Labels.{has};
 
 /// An entry of a profile: the UUIs `first` to `last` carry packets of `length` octets, each of `packet_time` milliseconds of
@@ -51,8 +51,8 @@ impl Entry {
         u32::from(self.last.saturating_sub(self.first)) + 1
     }
 
-    pub(crate) fn aligned(self) -> bool
-        ensures { result ≡ aligned self }
+    pub(crate) fn is_aligned(self) -> bool
+        ensures { result ≡ is_aligned self }
     {
         let width = self.width();
         matches!(width, 1 | 2 | 4 | 8 | 16) && u32::from(self.first) % width == 0

@@ -5,7 +5,7 @@ use text::bits::bits_of_words;
 use text::entry::entry_of;
 use text::hex::{Letters, octets_of};
 use text::number::{number, number_if_any, signed_number};
-use trunk::Which;
+use trunk::WhichKind;
 
 /// The call of a line. `None` where the octets are no call, or a number is out of its range.
 pub fn call_of(alloc: Global, line: &[u8]) -> Result<Option<Call>, AllocError> {
@@ -84,10 +84,10 @@ fn message_of(kind: &str, words: &[&str]) -> Option<Message> {
 }
 
 // The end's first kind is digits, the second signalling bits.
-fn which_of(kind: &str) -> Option<Which> {
+fn which_of(kind: &str) -> Option<WhichKind> {
     match kind {
-        "digit" => Some(Which::First),
-        "cas" => Some(Which::Second),
+        "digit" => Some(WhichKind::First),
+        "cas" => Some(WhichKind::Second),
         _ => None,
     }
 }

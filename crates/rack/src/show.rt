@@ -7,7 +7,7 @@ use text::digit::TypeCodeLevel;
 use text::hex::LowerHex;
 use text::news::{ElapsedAndPosition, show_news};
 use text::refusals::NumberAndLayer;
-use trunk::{Arrived, Stream, Which};
+use trunk::{Arrived, Stream, WhichKind};
 use type3::Either;
 
 /// What is written for a line of the input.
@@ -46,7 +46,12 @@ fn show_arrived<W: fmt::Write>(
 ) -> fmt::Result {
     match arrived {
         Arrived::Audio(news) => {
-            write!(f, "audio {} {}", news.place, ElapsedAndPosition(news.moved))
+            write!(
+                f,
+                "audio {} {}",
+                news.place,
+                ElapsedAndPosition(news.advance)
+            )
         }
         Arrived::First(news) => {
             write!(f, "digit ")?;
@@ -66,8 +71,8 @@ fn show_arrived<W: fmt::Write>(
 fn stream_name(stream: Stream) -> &'static str {
     match stream {
         Stream::Audio => "audio",
-        Stream::Messages(Which::First) => "digit",
-        Stream::Messages(Which::Second) => "cas",
+        Stream::Messages(WhichKind::First) => "digit",
+        Stream::Messages(WhichKind::Second) => "cas",
     }
 }
 

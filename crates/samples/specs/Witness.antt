@@ -18,7 +18,7 @@ use Rattle.profile.specs.declared.entry.Entry.{Entry}
 use Rattle.profile.specs.declared.examples.Example.TheVariants.{A}
 use Rattle.placing.specs.declared.receiver.Class.TheVariants.{Event, Confirmed, Recovered}
 use Rattle.placing.specs.Lists.{gather}
-use Rattle.trunk.specs.declared.answer.Which.TheVariants as which
+use Rattle.trunk.specs.declared.answer.WhichKind.TheVariants as which
 use Rattle.trunk.specs.End.{in_force}
 use Rattle.trunk.specs.declared.answer.Stream.TheVariants.{Audio, Messages}
 use Rattle.network.specs.declared.side.Side.TheVariants.{Near, Far}

@@ -7,11 +7,11 @@ use Rattle.type3.specs.Octets.{write}
 use Rattle.type3.specs.declared.payload.Payload.{Payload}
 use Rattle.type3.proofs.Writes.{room_yes}
 use Rattle.type3.proofs.RoundTrip.{length_written}
-use Rattle.sending.specs.Sending.{Stream, due_of, said_by, octets_of, due_questions, due}
-use Rattle.sending.specs.declared.event.Packet.{Packet}
+use Rattle.sending.specs.Sending.{Outbound, due_of, said_by, octets_of, due_questions, due}
+use Rattle.sending.specs.declared.event.DuePacket.{DuePacket}
 use Rattle.sending.specs.Answered.{put}
 
-module _ {M : Type 0} (k : Meaning M) (law : Lawful k) (s : Stream M) (u t : ℕ) (out : List ℕ) (d : Packet M) (x : Payload M) where
+module _ {M : Type 0} (k : Meaning M) (law : Lawful k) (s : Outbound M) (u t : ℕ) (out : List ℕ) (d : DuePacket M) (x : Payload M) where
   sends : u ≡ t → Ok tt ≡ allowed (first_no (due_questions k s u (length out))) → Some d ≡ due_of s u →
       ((due k s t (length out)).0 ≡ Ok (Some (octets_of k d))) × (leb (k.len + 4) (length out) ≡ true)
   sends is asked is_due = (grind (arith, nat_tests), grind (arith, nat_tests))

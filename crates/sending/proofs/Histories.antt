@@ -3,9 +3,9 @@ use Rattle.std.proofs.Common.{◌≡◌, ℕ, ◌<◌, ◌≤◌, cond, leb, Lis
 use Rattle.std.proofs.lemmas.Bool.Decides.{nat_tests}
 use Rattle.type3.specs.Kinds.{Meaning}
 use Rattle.sending.specs.declared.event.Event.{Event}
-use Rattle.sending.specs.Sending.{Stream, new_sender}
-use Rattle.sending.specs.declared.event.Packet.{Packet}
-use Rattle.sending.specs.Runs.{Call, Did, accepted, made, neither, does, step, history, latest_from, since_from, since, had_from, had}
+use Rattle.sending.specs.Sending.{Outbound, new_sender}
+use Rattle.sending.specs.declared.event.DuePacket.{DuePacket}
+use Rattle.sending.specs.Runs.{SenderCall, Outcome, accepted, made, neither, does, step, history, latest_from, since_from, since, had_from, had}
 use Rattle.sending.specs.Runs.{SendsLawfully}
 use Rattle.sending.proofs.Turns.{each_call}
 use Rattle.sending.proofs.Kept.{Kept, kept_new, kept_on}
@@ -14,23 +14,23 @@ use Rattle.sending.proofs.Behind.{Behind, stays, accepted_ahead, Making, making}
 module _ {M : Type 0} where
   -- ---- the words for a history, one thing after another
 
-  latest_more : (o : Option (Event M)) (d : Did M) (ds : List (Did M)) → latest_from o (d ∷ ds) ≡ latest_from (latest_from o (d ∷ [])) ds
+  latest_more : (o : Option (Event M)) (d : Outcome M) (ds : List (Outcome M)) → latest_from o (d ∷ ds) ≡ latest_from (latest_from o (d ∷ [])) ds
   latest_more o d ds = grind arith
 
-  since_more : (ts : List ℕ) (d : Did M) (ds : List (Did M)) → since_from ts (d ∷ ds) ≡ since_from (since_from ts (d ∷ [])) ds
+  since_more : (ts : List ℕ) (d : Outcome M) (ds : List (Outcome M)) → since_from ts (d ∷ ds) ≡ since_from (since_from ts (d ∷ [])) ds
   since_more ts d ds = grind arith
 
-  had_append : (o : Option M) (x : ℕ) (ds es : List (Did M)) → had_from o x (ds ++ es) ≡ had_from (had_from o x ds) x es
+  had_append : (o : Option M) (x : ℕ) (ds es : List (Outcome M)) → had_from o x (ds ++ es) ≡ had_from (had_from o x ds) x es
   had_append o x [] es = refl
   had_append o x (d ∷ ds) es = let more = λ (p : Option M). had_append p x ds es in grind arith
 
   -- an event after a time changes nothing of what was had at it
-  had_same : (o : Option M) (x : ℕ) (d : Did M) (ds : List (Did M)) → ((e : Event M) → d ≡ accepted e → x < e.time)
+  had_same : (o : Option M) (x : ℕ) (d : Outcome M) (ds : List (Outcome M)) → ((e : Event M) → d ≡ accepted e → x < e.time)
       → had_from o x (d ∷ ds) ≡ had_from o x ds
   had_same o x d ds h = grind (arith, nat_tests)
 
   -- the latest event is had at its time and after
-  had_latest : (q : Option (Event M)) (o : Option M) (x : ℕ) (ds : List (Did M)) →
+  had_latest : (q : Option (Event M)) (o : Option M) (x : ℕ) (ds : List (Outcome M)) →
       ((e : Event M) → q ≡ Some e → e.time ≤ x → o ≡ Some e.message) →
       (e : Event M) → latest_from q ds ≡ Some e → e.time ≤ x → had_from o x ds ≡ Some e.message
   had_latest q o x [] tie e is low = tie e is low
@@ -42,22 +42,22 @@ module _ {M : Type 0} where
   had_latest q o x (neither ∷ ds) tie e is low = had_latest q o x ds tie e is low
 
   module _ (k : Meaning M) where
-    latest_after : (s : Stream M) (c : Call M) → (step k s c).latest ≡ latest_from s.latest (does k s c ∷ [])
+    latest_after : (s : Outbound M) (c : SenderCall M) → (step k s c).latest ≡ latest_from s.latest (does k s c ∷ [])
     latest_after s = each_call k s (λ d u. u.latest ≡ latest_from s.latest (d ∷ [])) refl (λ e on ok. refl) (λ t on. refl)
         (λ t d on due. refl)
 
     -- ---- the stream at which a call did something
 
-    record Reached (s : Stream M) (ts : List ℕ) (before rest : List (Did M)) (d : Did M) : Type 0 where
-      state : Stream M
-      call : Call M
-      calls : List (Call M)
+    record Reached (s : Outbound M) (ts : List ℕ) (before rest : List (Outcome M)) (d : Outcome M) : Type 0 where
+      state : Outbound M
+      call : SenderCall M
+      calls : List (SenderCall M)
       event : state.latest ≡ latest_from s.latest before
       kept : Kept k state (since_from ts before)
       did : does k state call ≡ d
       then : rest ≡ history k (step k state call) calls
 
-    reach : (s : Stream M) (ts : List ℕ) → Kept k s ts → (cs : List (Call M)) (before rest : List (Did M)) (d : Did M) →
+    reach : (s : Outbound M) (ts : List ℕ) → Kept k s ts → (cs : List (SenderCall M)) (before rest : List (Outcome M)) (d : Outcome M) →
         history k s cs ≡ before ++ (d ∷ rest) → Reached s ts before rest d
     reach s ts kept [] [] rest d h = cc
     reach s ts kept [] (x ∷ before) rest d h = cc
@@ -78,7 +78,7 @@ module _ {M : Type 0} where
 
     -- ---- calls after a time is behind
 
-    later_events : (s : Stream M) (ts : List ℕ) (x : ℕ) → Kept k s ts → Behind s x → (cs : List (Call M)) (before rest : List (Did M))
+    later_events : (s : Outbound M) (ts : List ℕ) (x : ℕ) → Kept k s ts → Behind s x → (cs : List (SenderCall M)) (before rest : List (Outcome M))
         (e : Event M) →
         history k s cs ≡ before ++ (accepted e ∷ rest) → x < e.time
     later_events s ts x kept b [] [] rest e h = cc
@@ -89,7 +89,7 @@ module _ {M : Type 0} where
         later_events (step k s c) (since_from ts (does k s c ∷ [])) x (kept_on k s ts kept c)
         (stays k s ts kept x b c) cs before rest e after
 
-    had_on : (s : Stream M) (ts : List ℕ) (x : ℕ) → Kept k s ts → Behind s x → (cs : List (Call M)) (o : Option M)
+    had_on : (s : Outbound M) (ts : List ℕ) (x : ℕ) → Kept k s ts → Behind s x → (cs : List (SenderCall M)) (o : Option M)
         → had_from o x (history k s cs) ≡ o
     had_on s ts x kept b [] o = refl
     had_on s ts x kept b (c ∷ cs) o =
@@ -98,7 +98,7 @@ module _ {M : Type 0} where
 
     -- ---- the laws
 
-    module _ (cs : List (Call M)) (before rest : List (Did M)) (call : ℕ) (d : Packet M)
+    module _ (cs : List (SenderCall M)) (before rest : List (Outcome M)) (call : ℕ) (d : DuePacket M)
         (h : history k new_sender cs ≡ before ++ (made call d ∷ rest)) where
       at : Reached new_sender [] before rest (made call d)
       at = reach new_sender [] (kept_new k) cs before rest (made call d) h

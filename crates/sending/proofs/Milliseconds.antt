@@ -6,17 +6,17 @@ use Rattle.refusal.specs.declared.Refusal.{Refusal}
 use Rattle.type3.specs.Kinds.{Meaning, Lawful}
 use Rattle.sending.specs.declared.event.Event.{Event}
 use Rattle.sending.specs.Sending as on
-use Rattle.sending.specs.Sending.{Stream, event_questions, after_event, due_of, sent, due_questions}
+use Rattle.sending.specs.Sending.{Outbound, event_questions, after_event, due_of, sent, due_questions}
 use Rattle.sending.specs.Runs.{due, does, step, history, each_millisecond, plan, goes, planned, KeepsItsMoments}
 use Rattle.sending.proofs.Turns.{taken}
 use Rattle.sending.proofs.Moments.{as_due, Copying, At, at_clock, turn}
 
 module _ {M : Type 0} (k : Meaning M) (law : Lawful k) (e : Event M) where
   module _ (room : ℕ) (fits : leb (k.len + 4) room ≡ true) where
-    not_refused : (s : Stream M) (t : ℕ) → t ≤ 1099511627775 → s.clock ≤ t → on.due k s t room ≡ sent k s t (due_of s t)
+    not_refused : (s : Outbound M) (t : ℕ) → t ≤ 1099511627775 → s.clock ≤ t → on.due k s t room ≡ sent k s t (due_of s t)
     not_refused s t in_range later = grind (arith, nat_tests)
 
-    run : (n i : ℕ) (s : Stream M) → At k law e i s → e.time + i + n ≤ 1099511627776
+    run : (n i : ℕ) (s : Outbound M) → At k law e i s → e.time + i + n ≤ 1099511627776
         → history k s (each_millisecond k (e.time + i) room n) ≡ planned k e i n
     run zero i s a in_range = refl
     run (suc n) i s a in_range =

@@ -7,8 +7,8 @@ use Rattle.std.proofs.lemmas.Bool.{cases_lt}
 use Rattle.std.specs.Option.{option_map}
 use Rattle.type3.specs.Kinds.{Meaning, Lawful}
 use Rattle.sending.specs.declared.event.Event.{Event}
-use Rattle.sending.specs.Sending.{Stream, due_of, next_refresh, sent}
-use Rattle.sending.specs.declared.event.Packet.{Packet}
+use Rattle.sending.specs.Sending.{Outbound, due_of, next_refresh, sent}
+use Rattle.sending.specs.declared.event.DuePacket.{DuePacket}
 use Rattle.sending.specs.Runs.{plan}
 use native.Mathlib.Nat.{mul-mod_left}
 use lib.Arith.{digits_mod}
@@ -25,14 +25,14 @@ no_multiple (suc p) g j below above h =
 
 module _ {M : Type 0} (k : Meaning M) (law : Lawful k) (e : Event M) where
   -- the planned packet, as the stream has it
-  abbrev pub as_due : ℕ → Option ℕ → Option (Packet M)
+  abbrev pub as_due : ℕ → Option ℕ → Option (DuePacket M)
   as_due i None = None
   as_due i (Some r) = Some (record { redundancy = r; time = cond (eqb r 3) (e.time + i) e.time; message = e.message })
 
   -- ---- the stream i milliseconds after the event
 
   -- before the call that sends copy c, where c were sent
-  pub record Copying (i : ℕ) (s : Stream M) : Type 0 where
+  pub record Copying (i : ℕ) (s : Outbound M) : Type 0 where
     pub clock : s.clock ≤ e.time + i
     pub latest : s.latest ≡ Some e
     pub few : s.copies < 3
@@ -44,29 +44,29 @@ module _ {M : Type 0} (k : Meaning M) (law : Lawful k) (e : Event M) where
   Next None i o = o ≡ None
   Next (Some g) i o = (q : ℕ) × (o ≡ Some (e.time + (10 + q * g))) × (i ≤ 10 + q * g) × (10 + q * g < i + g)
 
-  pub record Refreshing (i : ℕ) (s : Stream M) : Type 0 where
+  pub record Refreshing (i : ℕ) (s : Outbound M) : Type 0 where
     pub clock : s.clock ≤ e.time + i
     pub latest : s.latest ≡ Some e
     pub copies : s.copies ≡ 3
     pub late : 11 ≤ i
     pub next : Next (k.gap e.message) i s.refresh
 
-  abbrev pub At : ℕ → Stream M → Type 0
+  abbrev pub At : ℕ → Outbound M → Type 0
   At i s = Copying i s ⊎ Refreshing i s
 
-  pub at_clock : (i : ℕ) (s : Stream M) → At i s → s.clock ≤ e.time + i
+  pub at_clock : (i : ℕ) (s : Outbound M) → At i s → s.clock ≤ e.time + i
   at_clock i s (inl a) = a.clock
   at_clock i s (inr a) = a.clock
 
   -- ---- a call at that millisecond
 
-  pub record Turn (i : ℕ) (s : Stream M) : Type 0 where
+  pub record Turn (i : ℕ) (s : Outbound M) : Type 0 where
     pub packet : Option ℕ
     pub is_planned : plan k e.message i ≡ packet
     pub is_due : due_of s (e.time + i) ≡ as_due i packet
     pub after : At (i + 1) (sent k s (e.time + i) (as_due i packet)).1
 
-  module _ (i : ℕ) (s : Stream M) (a : Copying i s) where
+  module _ (i : ℕ) (s : Outbound M) (a : Copying i s) where
     first_refresh : (r : Option ℕ) → i ≡ 10 → r ≡ next_refresh k (e.time + i) e.message → (o : Option ℕ) → k.gap e.message ≡ o
         → Next o (i + 1) r
     first_refresh r now next None is = grind arith
@@ -96,7 +96,7 @@ module _ {M : Type 0} (k : Meaning M) (law : Lawful k) (e : Event M) where
           next = first_refresh _ (omega arith) (grind (arith, nat_tests)) (k.gap e.message) refl;
         })
 
-  module _ (i : ℕ) (s : Stream M) (a : Refreshing i s) where
+  module _ (i : ℕ) (s : Outbound M) (a : Refreshing i s) where
     refresh_turn : (o : Option ℕ) → k.gap e.message ≡ o → Next o i s.refresh → Turn i s
     refresh_turn None is none = record {
       packet = None;
@@ -142,6 +142,6 @@ module _ {M : Type 0} (k : Meaning M) (law : Lawful k) (e : Event M) where
               });
             }
 
-  pub turn : (i : ℕ) (s : Stream M) → At i s → Turn i s
+  pub turn : (i : ℕ) (s : Outbound M) → At i s → Turn i s
   turn i s (inl a) = copy_turn i s a (cases_lt i (5 * s.copies))
   turn i s (inr a) = refresh_turn i s a (k.gap e.message) refl a.next

@@ -6,10 +6,10 @@ use Rattle.refusal.specs.Questions.{first_no, unless}
 use Rattle.refusal.specs.declared.Refusal.{Refusal}
 use Rattle.type3.specs.Kinds.{Meaning}
 use Rattle.sending.specs.declared.event.Event.{Event}
-use Rattle.sending.specs.Sending.{Stream, later_than_made, event_questions, after_event, due_of, after_nothing, after_packet, sent}
+use Rattle.sending.specs.Sending.{Outbound, later_than_made, event_questions, after_event, due_of, after_nothing, after_packet, sent}
 use Rattle.sending.specs.Sending.{due_questions}
-use Rattle.sending.specs.declared.event.Packet.{Packet}
-use Rattle.sending.specs.Runs.{Call, event, due, Did, accepted, made, neither, did_event, did_due, does, step}
+use Rattle.sending.specs.declared.event.DuePacket.{DuePacket}
+use Rattle.sending.specs.Runs.{SenderCall, event, due, Outcome, accepted, made, neither, did_event, did_due, does, step}
 
 -- a call that was not refused: its time is in the range, and not behind the clock
 pub record Current (clock t : ℕ) : Type 0 where
@@ -17,16 +17,16 @@ pub record Current (clock t : ℕ) : Type 0 where
   pub not_behind : clock ≤ t
 
 module _ {M : Type 0} where
-  abbrev pub taken : Stream M → Event M → Result (Unit {0}) Refusal × Stream M
+  abbrev pub taken : Outbound M → Event M → Result (Unit {0}) Refusal × Outbound M
   taken s e = (Ok tt, after_event s e)
 
-  module _ (k : Meaning M) (s : Stream M) (P : Did M → Stream M → Type 0)
+  module _ (k : Meaning M) (s : Outbound M) (P : Outcome M → Outbound M → Type 0)
       (refused : P neither s)
       (event_taken : (e : Event M) → Current s.clock e.time → later_than_made s e.time ≡ true → P (accepted e) (after_event s e))
       (nothing_due : (t : ℕ) → Current s.clock t → P neither (after_nothing s t))
-      (packet_made : (t : ℕ) (d : Packet M) → Current s.clock t → due_of s t ≡ Some d → P (made t d) (after_packet k s t d)) where
+      (packet_made : (t : ℕ) (d : DuePacket M) → Current s.clock t → due_of s t ≡ Some d → P (made t d) (after_packet k s t d)) where
     -- what is so of each of these is so of every call
-    pub each_call : (c : Call M) → P (does k s c) (step k s c)
+    pub each_call : (c : SenderCall M) → P (does k s c) (step k s c)
     each_call (event t m) = by (first_no (event_questions s t)) refl
       where
         e : Event M
@@ -39,7 +39,7 @@ module _ {M : Type 0} where
         by (Some f) is = refused
     each_call (due t room) = by (first_no (due_questions k s t room)) refl (due_of s t) refl
       where
-        by : (o : Option Refusal) → first_no (due_questions k s t room) ≡ o → (d : Option (Packet M)) → due_of s t ≡ d →
+        by : (o : Option Refusal) → first_no (due_questions k s t room) ≡ o → (d : Option (DuePacket M)) → due_of s t ≡ d →
             P (did_due t d (unless o s (sent k s t d)).0) (unless o s (sent k s t d)).1
         by None is None not_due = nothing_due t (record { in_time = grind (arith, nat_tests); not_behind = grind (arith, nat_tests) })
         by None is (Some d) is_due =

@@ -11,11 +11,11 @@ use Rattle.type3.specs.Stamps.{stamp_modulus}
 use Rattle.type3.specs.Octets.{written}
 use Rattle.type3.specs.declared.payload.Payload.{Payload}
 use Rattle.sending.specs.declared.event.Event.{Event}
-use Rattle.sending.specs.declared.event.Packet.{Packet}
+use Rattle.sending.specs.declared.event.DuePacket.{DuePacket}
 
 -- The sending half of a message stream: the time of the latest call that was not refused, the latest event, how many copies of
 -- it went out, when the next refresh is due, and when the last refresh went out.
-pub record Stream (M : Type 0) : Type 0 where
+pub record Outbound (M : Type 0) : Type 0 where
   pub clock : ℕ
   pub latest : Option (Event M)
   pub copies : ℕ
@@ -37,16 +37,16 @@ later_than_event None t = true
 later_than_event (Some e) t = nat_lt e.time t
 
 module _ {M : Type 0} where
-  abbrev pub new_sender : Stream M
+  abbrev pub new_sender : Outbound M
   new_sender = record { clock = 0; latest = None; copies = 0; refresh = None; refreshed = None }
 
   -- later than the latest event and than the last refresh, so than all that the stream's packets are made for
-  abbrev pub later_than_made : Stream M → ℕ → Bool
+  abbrev pub later_than_made : Outbound M → ℕ → Bool
   later_than_made s t = later_than_event s.latest t && later s.refreshed t
 
   -- ---- an event
 
-  abbrev pub event_questions : Stream M → ℕ → List (Bool × Refusal)
+  abbrev pub event_questions : Outbound M → ℕ → List (Bool × Refusal)
   event_questions s t =
       (is_time t, Sending TimeOutOfRange)
       ∷ (nat_le s.clock t, Sending BehindClock)
@@ -54,22 +54,22 @@ module _ {M : Type 0} where
       ∷ []
 
   -- it ends what was due of an earlier one
-  abbrev pub after_event : Stream M → Event M → Stream M
+  abbrev pub after_event : Outbound M → Event M → Outbound M
   after_event s e = record { clock = e.time; latest = Some e; copies = 0; refresh = None; refreshed = s.refreshed }
 
-  abbrev pub event : Stream M → ℕ → M → Result (Unit {0}) Refusal × Stream M
+  abbrev pub event : Outbound M → ℕ → M → Result (Unit {0}) Refusal × Outbound M
   event s t m = unless (first_no (event_questions s t)) s (Ok tt, after_event s (record { time = t; message = m }))
 
   -- ---- what is due
 
   -- the refresh at a call at t, if it is due by then; what it is made for is t too
-  abbrev pub refresh_due : Option ℕ → ℕ → M → Option (Packet M)
+  abbrev pub refresh_due : Option ℕ → ℕ → M → Option (DuePacket M)
   refresh_due None t m = None
   refresh_due (Some moment) t m = cond (nat_le moment t) (Some (record { redundancy = 3; time = t; message = m })) None
 
   -- the next copy while any is left, 5 ms after the copy before it and the first at once, with the time of the event; after them a
   -- refresh
-  abbrev pub due_by : Stream M → ℕ → Option (Event M) → Option (Packet M)
+  abbrev pub due_by : Outbound M → ℕ → Option (Event M) → Option (DuePacket M)
   due_by s t None = None
   due_by s t (Some e) =
       cond (nat_lt s.copies 3)
@@ -77,25 +77,25 @@ module _ {M : Type 0} where
       (refresh_due s.refresh t e.message)
 
   -- the packet that a call at t sends, if one is due
-  abbrev pub due_of : Stream M → ℕ → Option (Packet M)
+  abbrev pub due_of : Outbound M → ℕ → Option (DuePacket M)
   due_of s t = due_by s t s.latest
 
   -- what a packet says: its stamp is that of the time that it is made for
-  abbrev pub said_by : Packet M → Payload M
+  abbrev pub said_by : DuePacket M → Payload M
   said_by d = record { redundancy = d.redundancy; stamp = d.time % stamp_modulus; message = d.message }
 
-  abbrev pub after_nothing : Stream M → ℕ → Stream M
+  abbrev pub after_nothing : Outbound M → ℕ → Outbound M
   after_nothing s t = record { clock = t; latest = s.latest; copies = s.copies; refresh = s.refresh; refreshed = s.refreshed }
 
   module _ (k : Meaning M) where
-    abbrev pub octets_of : Packet M → List ℕ
+    abbrev pub octets_of : DuePacket M → List ℕ
     octets_of d = written k (said_by d)
 
     -- when a refresh is due after a packet was sent at t, the last copy or a refresh: a gap later, or never
     abbrev pub next_refresh : ℕ → M → Option ℕ
     next_refresh t m = option_map (λ gap. t + gap) (k.gap m)
 
-    abbrev pub after_packet : Stream M → ℕ → Packet M → Stream M
+    abbrev pub after_packet : Outbound M → ℕ → DuePacket M → Outbound M
     after_packet s t d = record {
       clock = t;
       latest = s.latest;
@@ -104,11 +104,11 @@ module _ {M : Type 0} where
       refreshed = cond (d.redundancy == 3) (Some t) s.refreshed;
     }
 
-    abbrev pub sent : Stream M → ℕ → Option (Packet M) → Result (Option (List ℕ)) Refusal × Stream M
+    abbrev pub sent : Outbound M → ℕ → Option (DuePacket M) → Result (Option (List ℕ)) Refusal × Outbound M
     sent s t None = (Ok None, after_nothing s t)
     sent s t (Some d) = (Ok (Some (octets_of d)), after_packet s t d)
 
-    abbrev pub due_questions : Stream M → ℕ → ℕ → List (Bool × Refusal)
+    abbrev pub due_questions : Outbound M → ℕ → ℕ → List (Bool × Refusal)
     due_questions s t room =
         (is_time t, Sending TimeOutOfRange)
         ∷ (nat_le s.clock t, Sending BehindClock)
@@ -116,5 +116,5 @@ module _ {M : Type 0} where
         ∷ []
 
     -- What is due at a time, in so much room: the octets of a packet, or nothing. All is asked whether or not anything is due.
-    abbrev pub due : Stream M → ℕ → ℕ → Result (Option (List ℕ)) Refusal × Stream M
+    abbrev pub due : Outbound M → ℕ → ℕ → Result (Option (List ℕ)) Refusal × Outbound M
     due s t room = unless (first_no (due_questions s t room)) s (sent s t (due_of s t))

@@ -16,7 +16,7 @@ pub struct Event<T> {
 
 /// A packet is made for a time: a copy for its event's, a refresh for that of the call which sends it.
 #[derive(Clone, Copy, Debug, PartialEq, Eq)]
-pub struct Packet<T> {
+pub struct DuePacket<T> {
     /// which copy it is, or that it is a refresh
     pub redundancy: Redundancy,
     /// the time that it is made for, of which its stamp is made
@@ -25,7 +25,7 @@ pub struct Packet<T> {
     pub message: T,
 }
 
-impl<T: Copy> Packet<T> {
+impl<T: Copy> DuePacket<T> {
     // What it says: its stamp is that of the time that it is made for.
     pub(crate) fn payload(&self) -> Payload<T>
         ensures { result ≡ said_by self.now }

@@ -7,5 +7,5 @@ mod event;
 mod sender;
 
 pub use audio::AudioSender;
-pub use event::{Event, Packet};
+pub use event::{DuePacket, Event};
 pub use sender::Sender;

@@ -6,7 +6,7 @@ ghost use Rattle.sending.specs.Sending.{after_packet, due};
 ghost use Rattle.sending.specs.Runs.{SendsLawfully, KeepsItsMoments};
 ghost use Rattle.sending.specs.Answered.{counted, put};
 
-use crate::event::{Event, Packet};
+use crate::event::{DuePacket, Event};
 use refusal::{Refusal, SendingFault, Time};
 use std::marker::Model;
 use type3::{Kind, Redundancy, payload_len, write_payload};
@@ -34,9 +34,9 @@ pub struct Sender<K: Kind> {
 
 impl<K: Kind> Model for Sender<K> {
     ghost use Rattle.std.specs.Prelude.{◌≡◌, true};
-    ghost use Rattle.sending.specs.Sending.{Stream, event_in_range};
+    ghost use Rattle.sending.specs.Sending.{Outbound, event_in_range};
 
-    ghost Value = { Stream K.Message };
+    ghost Value = { Outbound K.Message };
 
     ghost view = { λ s. record { clock = s.clock; latest = s.latest; copies = s.next; refresh = s.refresh; refreshed = s.refreshed } };
 
@@ -123,7 +123,7 @@ impl<K: Kind> Sender<K> {
             return Ok(None);
         };
         let count = write_payload::<K>(packet.payload(), out)?;
-        self.sent(time, &packet);
+        self.after_packet(time, &packet);
         Ok(Some(count))
     }
 
@@ -140,7 +140,7 @@ impl<K: Kind> Sender<K> {
     }
 
     // The packet that a call at this time sends, if one is due.
-    fn packet(&self, time: Time) -> Option<Packet<K::Message>>
+    fn packet(&self, time: Time) -> Option<DuePacket<K::Message>>
         ensures { result ≡ due_of self.now time }
     {
         let event = self.latest?;
@@ -154,7 +154,7 @@ impl<K: Kind> Sender<K> {
             (self.refresh?, time)
         };
         if moment <= time.get() {
-            Some(Packet {
+            Some(DuePacket {
                 redundancy: self.next,
                 time: made,
                 message: event.message,
@@ -165,7 +165,7 @@ impl<K: Kind> Sender<K> {
     }
 
     // A packet has gone out.
-    fn sent(&mut self, time: Time, packet: &Packet<K::Message>)
+    fn after_packet(&mut self, time: Time, packet: &DuePacket<K::Message>)
         ensures { self.new ≡ after_packet K.Kind.model self.old time packet.now }
     {
         let redundancy = packet.redundancy.get();

@@ -2,7 +2,7 @@
 use kinds::{CasBits, Digit};
 use refusal::Refusal;
 use trunk::Arrived;
-use type3::{Either, LONGEST, Written};
+use type3::{Either, LONGEST, OctetBuffer};
 
 /// The answer to a call. A refusal is one, and no error.
 #[derive(Drop)]
@@ -13,7 +13,7 @@ pub enum Answer {
     /// No packet is due.
     Nothing,
     /// The octets of the packet that was due.
-    Sent(Written<LONGEST>),
+    Sent(OctetBuffer<LONGEST>),
     Arrived(Arrived<Digit, CasBits>),
     InForce(Option<Either<Digit, CasBits>>),
     Refused(Refusal),

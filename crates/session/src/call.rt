@@ -1,7 +1,7 @@
 //! The calls of a session.
 use kinds::CasBits;
 use profile::Entry;
-use trunk::Which;
+use trunk::WhichKind;
 
 /// A call. (Numbers are as they were given: a call with any of them is answered.)
 #[derive(Drop)]
@@ -30,7 +30,7 @@ pub enum ServiceCall {
     },
     /// What is due of a kind, in a buffer of so many octets.
     Due {
-        which: Which,
+        which: WhichKind,
         time: u64,
         room: usize,
     },
@@ -40,7 +40,7 @@ pub enum ServiceCall {
         octets: Vec<u8>,
     },
     /// The message in force.
-    Force(Which),
+    Force(WhichKind),
 }
 
 /// The message of an event. Its digit is still to be made, and may be refused; its level is in dBm0.

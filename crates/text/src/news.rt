@@ -1,10 +1,10 @@
 //! News in a line of answers.
-use placing::{MessageNews, Moved};
+use placing::{Advance, MessageNews};
 use std::fmt;
 
 /// How far news moves its stream: the time since the news before, and since the first news, in milliseconds.
 #[derive(Clone, Copy)]
-pub struct ElapsedAndPosition(pub Moved);
+pub struct ElapsedAndPosition(pub Advance);
 
 impl fmt::Display for ElapsedAndPosition {
     fn fmt<W: fmt::Write>(&self, f: &mut fmt::Formatter<W>) -> fmt::Result {
@@ -22,6 +22,6 @@ pub fn show_news<T: Copy, W: fmt::Write>(
         f,
         "{} {redundancy} {}",
         news.class,
-        ElapsedAndPosition(news.moved)
+        ElapsedAndPosition(news.advance)
     )
 }

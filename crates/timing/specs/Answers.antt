@@ -8,7 +8,7 @@ use Rattle.kinds.specs.declared.cas.CasBits.{CasBits}
 use Rattle.kinds.specs.Digits.{digits}
 use Rattle.kinds.specs.Cas.{cas}
 use Rattle.sending.specs.Audio.{audio}
-use Rattle.sending.specs.Sending.{Stream, new_sender, event, due}
+use Rattle.sending.specs.Sending.{Outbound, new_sender, event, due}
 use Rattle.timing.specs.declared.answer.Answer.{Answer}
 use Rattle.timing.specs.declared.answer.Answer.TheVariants as says
 use Rattle.timing.specs.declared.audio.Audio.{Audio}
@@ -37,10 +37,10 @@ new_streams = record { digits = new_sender; cas = new_sender; audio = None }
 abbrev pub new_audio : List Entry → Audio
 new_audio es = record { profile = es; sender = 0 }
 
-abbrev pub with_digits : Streams → Stream Digit → Streams
+abbrev pub with_digits : Streams → Outbound Digit → Streams
 with_digits s digits = record { digits = digits; cas = s.cas; audio = s.audio }
 
-abbrev pub with_cas : Streams → Stream CasBits → Streams
+abbrev pub with_cas : Streams → Outbound CasBits → Streams
 with_cas s cas = record { digits = s.digits; cas = cas; audio = s.audio }
 
 abbrev pub with_audio : Streams → Audio → Streams

@@ -4,7 +4,7 @@ use refusal::Refusal;
 use std::fmt;
 use text::hex::Hex;
 use text::refusals::NumberAndCause;
-use type3::Written;
+use type3::OctetBuffer;
 
 /// The answer to a call. A refusal is one, and no error of the program.
 #[derive(Drop)]
@@ -14,7 +14,7 @@ pub enum Answer {
     /// The audio stream is new, under a profile.
     Loaded,
     Accepted,
-    Octets(Written<MOST_ROOM>),
+    Octets(OctetBuffer<MOST_ROOM>),
     Nothing,
     Uui(u16),
     Refused(Refusal),

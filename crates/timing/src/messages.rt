@@ -6,7 +6,7 @@ ghost use Rattle.timing.specs.Answers.{accepted, packet, answer_by};
 use crate::answer::Answer;
 use crate::room::{MOST_ROOM, Room};
 use sending::Sender;
-use type3::{Kind, Written};
+use type3::{Kind, OctetBuffer};
 
 /// The event of a message at a time.
 pub fn answer_event<K: Kind>(sender: &mut Sender<K>, time: u64, message: K::Message) -> Answer
@@ -26,7 +26,7 @@ pub fn answer_due<K: Kind>(sender: &mut Sender<K>, time: u64, room: Room) -> Ans
 {
     let mut octets = [0; MOST_ROOM];
     match sender.due(time, &mut octets[..room.get()]) {
-        Ok(Some(count)) => Answer::Octets(Written::new(octets, count)),
+        Ok(Some(count)) => Answer::Octets(OctetBuffer::new(octets, count)),
         Ok(None) => Answer::Nothing,
         Err(refusal) => Answer::Refused(refusal),
     }

@@ -2,11 +2,11 @@
 ghost use Rattle.std.specs.Prelude.{◌≡◌};
 ghost use Rattle.trunk.specs.Streams.{on_stream};
 
-use placing::{MessageNews, Moved, Told};
+use placing::{Advance, MessageNews, Novelty};
 
 // An end has two kinds of message.
 #[derive(Clone, Copy, Debug, PartialEq, Eq)]
-pub enum Which {
+pub enum WhichKind {
     First,
     Second,
 }
@@ -15,14 +15,14 @@ pub enum Which {
 #[derive(Clone, Copy, Debug, PartialEq, Eq)]
 pub struct AudioNews {
     pub place: usize,
-    pub moved: Moved,
+    pub advance: Advance,
 }
 
 /// The streams of an end, each way: one of audio, and one of each kind of message.
 #[derive(Clone, Copy, Debug, PartialEq, Eq)]
 pub enum Stream {
     Audio,
-    Messages(Which),
+    Messages(WhichKind),
 }
 
 /// What an arrival is: news of audio or of a kind of message, which has its class; or, with the name of its stream, a repeat of the
@@ -38,13 +38,13 @@ pub enum Arrived<X, Y> {
 
 impl<X, Y> Arrived<X, Y> {
     /// A stream's answer, as the end's.
-    pub(crate) fn on(stream: Stream, told: Told<Arrived<X, Y>>) -> Arrived<X, Y>
-        ensures { result ≡ on_stream stream (λ news. news) told }
+    pub(crate) fn on(stream: Stream, novelty: Novelty<Arrived<X, Y>>) -> Arrived<X, Y>
+        ensures { result ≡ on_stream stream (λ news. news) novelty }
     {
-        match told {
-            Told::News(news) => news,
-            Told::Repeat => Arrived::Repeat(stream),
-            Told::Late => Arrived::Late(stream),
+        match novelty {
+            Novelty::News(news) => news,
+            Novelty::Repeat => Arrived::Repeat(stream),
+            Novelty::Late => Arrived::Late(stream),
         }
     }
 }

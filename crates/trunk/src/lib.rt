@@ -7,6 +7,6 @@ mod send;
 mod service;
 mod set_up;
 
-pub use answer::{Arrived, AudioNews, Stream, Which};
+pub use answer::{Arrived, AudioNews, Stream, WhichKind};
 pub use service::InService;
 pub use set_up::SetUp;

@@ -3,10 +3,10 @@ ghost use Rattle.std.specs.Prelude.{◌≡◌, IfErr, length};
 ghost use Rattle.sending.specs.Answered.{counted, put};
 ghost use Rattle.trunk.specs.End.{audio, event, due};
 
-use crate::answer::Which;
+use crate::answer::WhichKind;
 use crate::service::InService;
 use refusal::Refusal;
-use type3::{Either, Kind, LONGEST, Written};
+use type3::{Either, Kind, LONGEST, OctetBuffer};
 
 impl<P: Kind, Q: Kind> InService<P, Q> {
     // Audio from a time on, under the entry at a place: the label of its packet. Nothing is written.
@@ -35,25 +35,30 @@ impl<P: Kind, Q: Kind> InService<P, Q> {
     }
 
     // What is due of a kind at a time: the packet is written to the start of `out`, and its length is answered.
-    pub fn due(&mut self, which: Which, time: u64, out: &mut [u8]) -> Result<Option<usize>, Refusal>
+    pub fn due(
+        &mut self,
+        which: WhichKind,
+        time: u64,
+        out: &mut [u8],
+    ) -> Result<Option<usize>, Refusal>
         ensures value { result ≡ counted (due P.Kind.model Q.Kind.model self.old which time (length out.old)).0 }
         ensures after { self.new ≡ (due P.Kind.model Q.Kind.model self.old which time (length out.old)).1 }
         ensures octets { out.new ≡ put out.old (due P.Kind.model Q.Kind.model self.old which time (length out.old)).0 }
         ensures unchanged { IfErr result (λ _. (self.new ≡ self.old) × (out.new ≡ out.old)) }
     {
         match which {
-            Which::First => self.first_out.due(time, out),
-            Which::Second => self.second_out.due(time, out),
+            WhichKind::First => self.first_out.due(time, out),
+            WhichKind::Second => self.second_out.due(time, out),
         }
     }
 
     // The same with the octets themselves, for a caller who lends no buffer: they are written in so much room.
     pub fn due_octets(
         &mut self,
-        which: Which,
+        which: WhichKind,
         time: u64,
         room: usize,
-    ) -> Result<Option<Written<LONGEST>>, Refusal>
+    ) -> Result<Option<OctetBuffer<LONGEST>>, Refusal>
         ensures value { result ≡ (due P.Kind.model Q.Kind.model self.old which time room).0 }
         ensures after { self.new ≡ (due P.Kind.model Q.Kind.model self.old which time room).1 }
         ensures unchanged { IfErr result (λ _. self.new ≡ self.old) }
@@ -62,6 +67,6 @@ impl<P: Kind, Q: Kind> InService<P, Q> {
         let Some(count) = self.due(which, time, &mut octets[..room.min(LONGEST)])? else {
             return Ok(None);
         };
-        Ok(Some(Written::new(octets, count)))
+        Ok(Some(OctetBuffer::new(octets, count)))
     }
 }

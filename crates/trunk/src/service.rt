@@ -2,9 +2,9 @@
 ghost use Rattle.std.specs.Prelude.{◌≡◌};
 ghost use Rattle.trunk.specs.End.{in_force};
 
-use crate::answer::Which;
+use crate::answer::WhichKind;
 use crate::set_up::SetUp;
-use placing::{Receiver, Stream};
+use placing::{Receiver, Timeline};
 use profile::Profile;
 use sending::{AudioSender, Sender};
 use std::marker::Model;
@@ -18,7 +18,7 @@ pub struct InService<P: Kind, Q: Kind> {
     pub(crate) second_out: Sender<Q>,
     // the time of the latest arrival that was not refused
     pub(crate) clock: u64,
-    pub(crate) audio_in: Stream,
+    pub(crate) audio_in: Timeline,
     pub(crate) first_in: Receiver<P>,
     pub(crate) second_in: Receiver<Q>,
 }
@@ -42,12 +42,12 @@ impl<P: Kind, Q: Kind> Model for InService<P, Q> {
 
 impl<P: Kind, Q: Kind> InService<P, Q> {
     // The message in force on the stream of a kind: that of its latest news.
-    pub fn in_force(&self, which: Which) -> Option<Either<P::Message, Q::Message>>
+    pub fn in_force(&self, which: WhichKind) -> Option<Either<P::Message, Q::Message>>
         ensures { result ≡ in_force self.now which }
     {
         match which {
-            Which::First => Some(Either::First(self.first_in.in_force()?)),
-            Which::Second => Some(Either::Second(self.second_in.in_force()?)),
+            WhichKind::First => Some(Either::First(self.first_in.in_force()?)),
+            WhichKind::Second => Some(Either::Second(self.second_in.in_force()?)),
         }
     }
 

@@ -8,7 +8,7 @@ ghost use Rattle.trunk.specs.End.{started};
 ghost use Rattle.trunk.specs.SettingUp.{loaded, Loads};
 
 use crate::service::InService;
-use placing::{Receiver, Stream};
+use placing::{Receiver, Timeline};
 use profile::{Entry, Example, LoadError, Profile};
 use sending::{AudioSender, Sender};
 use std::alloc::Global;
@@ -63,7 +63,7 @@ impl SetUp {
             first_out: Sender::<P>::new(),
             second_out: Sender::<Q>::new(),
             clock: 0,
-            audio_in: Stream::new(),
+            audio_in: Timeline::new(),
             first_in: Receiver::<P>::new(),
             second_in: Receiver::<Q>::new(),
         }

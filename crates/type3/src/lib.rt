@@ -14,4 +14,4 @@ pub use kind::Kind;
 pub use payload::{Either, LONGEST, Payload, SHORTEST, TYPE_3_UUI, payload_len};
 pub use reading::{read_either, read_payload};
 pub use writing::write_payload;
-pub use written::Written;
+pub use written::OctetBuffer;

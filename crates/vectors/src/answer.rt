@@ -7,12 +7,12 @@ use text::bits::FourDigits;
 use text::digit::LevelTypeCode;
 use text::hex::Hex;
 use text::refusals::NumberAndCause;
-use type3::{LONGEST, Payload, Written};
+use type3::{LONGEST, OctetBuffer, Payload};
 
 /// The answer to a case. A refusal is one, and no error of the program.
 #[derive(Drop)]
 pub enum Answer {
-    Octets(Written<LONGEST>),
+    Octets(OctetBuffer<LONGEST>),
     Digit(Payload<Digit>),
     Cas(Payload<CasBits>),
     Wide(Payload<Mark>),

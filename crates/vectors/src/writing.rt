@@ -10,7 +10,7 @@ use kinds::{Cas, CasBits, Digit, Digits};
 use refusal::Refusal;
 use text::bits::bits_of;
 use text::number::{number, signed_number};
-use type3::{Kind, LONGEST, Payload, Redundancy, Stamp, Written, write_payload};
+use type3::{Kind, LONGEST, OctetBuffer, Payload, Redundancy, Stamp, write_payload};
 
 /// The two numbers at the head of a payload that is to be written, and its message.
 #[derive(Clone, Copy)]
@@ -63,7 +63,7 @@ impl WriteRequest {
         };
         let mut octets = [0; LONGEST];
         match write_payload::<K>(payload, &mut octets) {
-            Ok(count) => Answer::Octets(Written::new(octets, count)),
+            Ok(count) => Answer::Octets(OctetBuffer::new(octets, count)),
             Err(refusal) => Answer::Refused(refusal),
         }
     }
