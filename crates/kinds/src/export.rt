@@ -3,7 +3,7 @@ ghost use Rattle.std.specs.Prelude.{◌≡◌};
 ghost use Rattle.type3.specs.Octets.{read_either};
 ghost use Rattle.kinds.specs.Cas.{cas};
 ghost use Rattle.kinds.specs.Digits.{digits};
-ghost use Rattle.kinds.specs.Export.{type_of, number_told, novelty, Apart};
+ghost use Rattle.kinds.specs.Export.{type_of, number_told, number_for_c, Apart};
 
 use crate::cas::{Cas, CasBits};
 use crate::digit::Digit;
@@ -17,7 +17,7 @@ use type3::{Either, Kind, Payload, read_either};
 /// 131,072, and a payload that is read gives that or more.
 #[tactic(auto, using(crate::proofs::Numbers::refused_told))]
 pub fn read_as_number(payload: &[u8]) -> u32
-    ensures value { result ≡ novelty payload.now }
+    ensures value { result ≡ number_for_c payload.now }
     ensures apart { Apart (read_either digits cas payload.now) result }
 {
     let [first, second, ..] = payload else {

@@ -6,7 +6,7 @@ ghost use Rattle.std.specs.Prelude.{◌≡◌};
 ghost use Rattle.type3.specs.Octets.{read_either};
 ghost use Rattle.kinds.specs.Cas.{cas};
 ghost use Rattle.kinds.specs.Digits.{digits};
-ghost use Rattle.kinds.specs.Export.{novelty, Apart};
+ghost use Rattle.kinds.specs.Export.{number_for_c, Apart};
 
 use kinds::read_as_number;
 
@@ -16,7 +16,7 @@ use kinds::read_as_number;
 /// 131,072, and a payload that is read gives that or more.
 #[unsafe(no_mangle)]
 pub extern "C" fn gublaisma_read_type3(payload: &[u8]) -> u32
-    ensures value { result ≡ novelty payload.now }
+    ensures value { result ≡ number_for_c payload.now }
     ensures apart { Apart (read_either digits cas payload.now) result }
 {
     read_as_number(payload)

@@ -10,7 +10,7 @@ use Rattle.kinds.specs.declared.digit.Digit.{Digit}
 use Rattle.kinds.specs.declared.cas.CasBits.{CasBits}
 use Rattle.kinds.specs.Digits.{digits}
 use Rattle.kinds.specs.Cas.{cas}
-use Rattle.kinds.specs.Export.{novelty}
+use Rattle.kinds.specs.Export.{number_for_c}
 use Rattle.examples.specs.declared.wide.Mark.{Mark}
 use Rattle.examples.specs.Wide.{wide}
 use Rattle.vectors.specs.declared.answer.Answer.{Answer}
@@ -36,7 +36,7 @@ abbrev pub read_wide : List ℕ → Answer
 read_wide octets = answer_wide (type3.read wide octets)
 
 abbrev pub export : List ℕ → Answer
-export octets = answer.Number (novelty octets)
+export octets = answer.Number (number_for_c octets)
 
 -- what is written of a request with a message
 abbrev pub payload_of : {M : Type 0} → WriteRequest → M → Payload M

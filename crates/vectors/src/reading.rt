@@ -4,7 +4,7 @@ ghost use Rattle.vectors.specs.Answers.{read, read_wide, export};
 
 use crate::answer::Answer;
 use examples::wide::Wide;
-use kinds::{Cas, Digits, gublaisma_read_type3};
+use kinds::{Cas, Digits, read_as_number};
 use type3::{Either, read_either, read_payload};
 
 /// Read as a digit or as signalling bits.
@@ -32,5 +32,5 @@ pub fn read_wide(octets: &[u8]) -> Answer
 pub fn export(octets: &[u8]) -> Answer
     ensures { result ≡ export octets.now }
 {
-    Answer::Number(gublaisma_read_type3(octets))
+    Answer::Number(read_as_number(octets))
 }
