@@ -75,12 +75,13 @@ impl Streams {
         ensures value { result ≡ (begin self.old labelling).0 }
         ensures after { self.new ≡ (begin self.old labelling).1 }
     {
-        self.labelling = labelling;
-        self.labels = Timeline::new();
-        Answer::Begun {
+        let answer = Answer::Begun {
             span: labelling.span.get(),
             unit: labelling.unit,
-        }
+        };
+        self.labelling = labelling;
+        self.labels = Stream::new();
+        answer
     }
 
     fn arrive_at(&mut self, time: u64, packet: &Packet) -> Answer
