@@ -80,7 +80,7 @@ impl Streams {
             unit: labelling.unit,
         };
         self.labelling = labelling;
-        self.labels = Stream::new();
+        self.labels = Timeline::new();
         answer
     }
 
