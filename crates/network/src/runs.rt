@@ -38,7 +38,7 @@ impl From<NoMemory> for LoadError {
 
 // Starts two ends, and makes the calls one after another.
 pub fn simulate<P: Kind, Q: Kind>(
-    heap: Global,
+    alloc: Global,
     near: SetUp,
     far: SetUp,
     turns: &[Turn<&[u8], Either<P::Message, Q::Message>>],
@@ -49,7 +49,7 @@ pub fn simulate<P: Kind, Q: Kind>(
     ensures once { IfOk result (λ run. EachEventOnce P.Kind.model Q.Kind.model near far (map turn_of turns.now)) }
     ensures unchanged { IfErr result (λ back. (back.near ≡ near) × (back.far ≡ far)) }
 {
-    let Ok(mut answers) = Vec::with_capacity(heap, turns.len()) else {
+    let Ok(mut answers) = Vec::with_capacity(alloc, turns.len()) else {
         return Err(NoMemory { near, far });
     };
     let mut ends = Ends::<P, Q>::start(near, far);

@@ -35,20 +35,20 @@ impl Model for SetUp {
 
 impl SetUp {
     // A new end holds example profile A.
-    pub fn new(heap: Global) -> Result<SetUp, LoadError>
+    pub fn new(alloc: Global) -> Result<SetUp, LoadError>
         ensures { MatchResult result (λ s. s ≡ entries_of A) (λ e. e ≡ Memory) }
     {
         Ok(SetUp {
-            profile: Example::A.load(heap)?,
+            profile: Example::A.load(alloc)?,
         })
     }
 
     // The profile becomes that of the offered entries, if they pass every question.
-    pub fn load(&mut self, heap: Global, offered: &[Entry]) -> Result<(), LoadError>
+    pub fn load(&mut self, alloc: Global, offered: &[Entry]) -> Result<(), LoadError>
         ensures value { Loads offered.now result }
         ensures after { self.new ≡ loaded offered.now self.old result }
     {
-        self.profile = Profile::load(heap, offered)?;
+        self.profile = Profile::load(alloc, offered)?;
         Ok(())
     }
 
