@@ -11,7 +11,8 @@ use Rattle.network.specs.declared.side.Side.{Side}
 use Rattle.network.specs.Names.{other}
 use Rattle.network.specs.Runs.{Turn, Moment, Ends, begun, end_at, taken, moment, after, history}
 use Rattle.network.specs.Packets.{Named, Arrival, had, arrival}
-use Rattle.network.specs.Law.{Sound, Origin, sound, sounds, latest_news, later_than_all, passes, each_arrival, network_rule, age_rule, ToldRightly}
+use Rattle.network.specs.Law.{Sound, Origin, sound, sounds, latest_news, later_than_all, passes, each_arrival, network_rule, age_rule}
+use Rattle.network.specs.Law.{ToldRightly}
 
 module _ {P Q : Type 0} where
   -- what is told of one arrival is right
@@ -36,8 +37,10 @@ module _ {P Q : Type 0} where
 
   module _ (p : Meaning P) (q : Meaning Q) (es : List Entry) (Held : List (Moment P Q) → Ends P Q → Type 0) (k : Keeps p q es Held) where
     record Rest (h : List (Moment P Q)) (w : Ends P Q) (xs : List (Turn P Q)) : Type 0 where
-      exactly : Everywhere (λ before m. (x : Arrival P Q) → arrival m ≡ Some x → is_some x.news ≡ later_than_all before (sound before x)) h (history p q w xs)
-      origin : Everywhere (λ before m. (x : Arrival P Q) → arrival m ≡ Some x → (n : Named P Q) → x.news ≡ Some n → Origin before x n) h (history p q w xs)
+      exactly : Everywhere (λ before m. (x : Arrival P Q) → arrival m ≡ Some x → is_some x.news ≡ later_than_all before (sound before x))
+          h (history p q w xs)
+      origin : Everywhere (λ before m. (x : Arrival P Q) → arrival m ≡ Some x → (n : Named P Q) → x.news ≡ Some n → Origin before x n) h
+          (history p q w xs)
       held : Held (h ++ history p q w xs) (after p q w xs)
 
     rest : (xs : List (Turn P Q)) (h : List (Moment P Q)) (w : Ends P Q) → Held h w

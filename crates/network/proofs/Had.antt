@@ -25,4 +25,5 @@ module _ {X : Type 0} where
 
   -- an event after the time does not count
   pub had_before : (es : List (Event X)) (y : Event X) (t : ℕ) → t < y.time → had_of t (es ++ (y ∷ [])) ≡ had_of t es
-  had_before es y t h = rw (filter-append (λ e. leb (time e) t) es (y ∷ []), lt-leb y.time t h, append-nil (filter (λ e. leb (time e) t) es)) refl
+  had_before es y t h =
+      rw (filter-append (λ e. leb (time e) t) es (y ∷ []), lt-leb y.time t h, append-nil (filter (λ e. leb (time e) t) es)) refl

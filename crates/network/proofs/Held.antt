@@ -1,5 +1,6 @@
 -- What is kept from call to call: what is known of all that the two ends have sent and received. Assumes nothing.
-use Rattle.std.proofs.Common.{◌≡◌, ℕ, false, List, [], ◌∷◌, ◌++◌, length, Some, None, Ok, Err, Option, Result, sym, refl, ap, ◌∙◌, subst, true≢false, arith}
+use Rattle.std.proofs.Common.{◌≡◌, ℕ, false, List, [], ◌∷◌, ◌++◌, length, Some, None, Ok, Err, Option, Result, sym, refl, ap, ◌∙◌}
+use Rattle.std.proofs.Common.{subst, true≢false, arith}
 use Rattle.std.specs.List.{filter, cons_option}
 use Rattle.std.proofs.lemmas.Grind.{common_steps}
 use Rattle.std.specs.Option.{option_map, option_flatten}
@@ -20,7 +21,8 @@ use Rattle.trunk.specs.declared.answer.Stream.TheVariants.{Audio, Messages}
 use Rattle.network.specs.declared.side.Side.{Side}
 use Rattle.network.specs.Names.{other, same_side, same_kind, same_stream}
 use Rattle.network.specs.Runs.{Call, audio, event, due, arrive, AnswerTo, Moment, Ends, end_at}
-use Rattle.network.specs.Packets.{entry, Packet, Arrival, stream_of, accepted, events, made, made_at, packet_from, news_of, arrival_by, arrival}
+use Rattle.network.specs.Packets.{entry, Packet, Arrival, stream_of, accepted, events, made, made_at, packet_from, news_of, arrival_by}
+use Rattle.network.specs.Packets.{arrival}
 use Rattle.network.specs.Law.{sound, sounds, sound_if}
 use Rattle.network.proofs.Sameness.{itself, kind_itself}
 use Rattle.network.proofs.Longer.{unmade, old, made_now, whence, of_kind, events_stay, sounds_stay, on_it}
@@ -36,13 +38,15 @@ use Rattle.network.proofs.Arrives.{Sent, HeldAt}
 
 module _ {P Q : Type 0} where
   -- no sound arrival is at the other side
-  none_if : (b : Side) (n : Stream) (h : List (Moment P Q)) (m : Moment P Q) (x : Arrival P Q) (o : Option (Packet P Q)) → same_side b x.side ≡ false
+  none_if : (b : Side) (n : Stream) (h : List (Moment P Q)) (m : Moment P Q) (x : Arrival P Q) (o : Option (Packet P Q))
+      → same_side b x.side ≡ false
       → filter (on_it h m b n) (cons_option (sound_if x o) []) ≡ []
   none_if b n h m x None f = refl
   none_if b n h m x (Some k) f = grind (arith, common_steps)
 
   -- nor does a call there bring one
-  none_by : (b : Side) (n : Stream) (h : List (Moment P Q)) (m : Moment P Q) (side : Side) (c : Call P Q) (r : AnswerTo c) → same_side b side ≡ false
+  none_by : (b : Side) (n : Stream) (h : List (Moment P Q)) (m : Moment P Q) (side : Side) (c : Call P Q) (r : AnswerTo c)
+      → same_side b side ≡ false
       → filter (on_it h m b n) (cons_option (option_flatten (option_map (sound h) (arrival_by side c r))) []) ≡ []
   none_by b n h m side (arrive t u o i) r f = none_if b n h m (arriving side t u o i (news_of r)) (packet_from (other side) h i) f
   none_by b n h m side c r f = refl
@@ -72,7 +76,8 @@ module _ {P Q : Type 0} {p : Meaning P} {q : Meaning Q} {es : List Entry} where
   more_audio {h} m {b} sent now i x e f = elim (whence h m b i x e) [ old is ↦ sent.of_audio i x is f | made_now is ↦ now x is f ]
 
   -- a call after which the same is received, by the packet that it makes and the streams after it
-  held_by : {h : List (Moment P Q)} (m : Moment P Q) {b : Side} {s : End P Q} → HeldAt p q es h b s → ((n : Stream) → sounds b n (h ++ (m ∷ [])) ≡ sounds b n h)
+  held_by : {h : List (Moment P Q)} (m : Moment P Q) {b : Side} {s : End P Q} → HeldAt p q es h b s
+      → ((n : Stream) → sounds b n (h ++ (m ∷ [])) ≡ sounds b n h)
       → (free : ℕ) (first : sending.Outbound P) (second : sending.Outbound Q)
       → ((x : Packet P Q) → made_at b h (Some m) ≡ Some x → stream_of x.content ≡ Audio → AudioMade es x)
       → ((w : WhichKind) → Sends (meaning p q w) (inj P Q w) b w (h ++ (m ∷ [])) (out w (with_outs s free first second)))
@@ -83,9 +88,11 @@ module _ {P Q : Type 0} {p : Meaning P} {q : Meaning Q} {es : List Entry} where
     sent = record { of_audio = more_audio m x.sent of_audio; of_kinds = of_kinds };
   }
 
-  pub held_away : {h : List (Moment P Q)} (m : Moment P Q) {b : Side} {s : End P Q} → same_side b m.side ≡ false → HeldAt p q es h b s → HeldAt p q es (h ++ (m ∷ [])) b s
+  pub held_away : {h : List (Moment P Q)} (m : Moment P Q) {b : Side} {s : End P Q} → same_side b m.side ≡ false → HeldAt p q es h b s
+      → HeldAt p q es (h ++ (m ∷ [])) b s
   held_away {h} m {b} {s} away x =
-      held_by m x (λ n. sounds_stay h m b n (none_by b n h m m.side m.call m.answer away)) s.audio_out s.first_out s.second_out (λ y e f. absurd (none-some y (rw away at e)))
+      held_by m x (λ n. sounds_stay h m b n (none_by b n h m m.side m.call m.answer away)) s.audio_out s.first_out s.second_out
+      (λ y e f. absurd (none-some y (rw away at e)))
       (λ w. idle m (x.sent.of_kinds w) (events_stay h m b w (rw away refl)) (λ y e f. none-some y (rw away at e)))
 
   -- ---- the side that is called: audio, event and due
@@ -113,14 +120,18 @@ module _ {P Q : Type 0} {p : Meaning P} {q : Meaning Q} {es : List Entry} where
       abbrev ma : Moment P Q
       ma = record { side = a; call = audio t place o; answer = by_audio.0 }
 
-      made_audio : (y : Packet P Q) (r : Result ℕ Refusal) → by_audio.0 ≡ r → made h a (audio t place o) r ≡ Some y → (stream_of y.content ≡ Audio) × AudioMade es y
-      made_audio y (Ok u) is e = subst (λ z. (stream_of z.content ≡ Audio) × AudioMade es z) (same_Some (record { time = t; content = entry place; uui = u; octets = o }) y e)
+      made_audio : (y : Packet P Q) (r : Result ℕ Refusal) → by_audio.0 ≡ r → made h a (audio t place o) r ≡ Some y
+          → (stream_of y.content ≡ Audio) × AudioMade es y
+      made_audio y (Ok u) is e =
+          subst (λ z. (stream_of z.content ≡ Audio) × AudioMade es z)
+          (same_Some (record { time = t; content = entry place; uui = u; octets = o }) y e)
           (refl, audio_made es s.audio_out t place u o (rw x.profile_is at is))
       made_audio y (Err f) is e = absurd (none-some y e)
 
       pub held_audio : HeldAt p q es (h ++ (ma ∷ [])) a (with_outs s by_audio.1 s.first_out s.second_out)
       held_audio =
-          held_by ma x (hears_on ma refl) by_audio.1 s.first_out s.second_out (λ y e f. (made_audio y by_audio.0 refl (rw (itself a) at e)).1)
+          held_by ma x (hears_on ma refl) by_audio.1 s.first_out s.second_out
+          (λ y e f. (made_audio y by_audio.0 refl (rw (itself a) at e)).1)
           (λ w. idle ma (x.sent.of_kinds w) (brings_none h ma a w refl)
           (λ y e f. true≢false (ap (same_stream Audio) (sym (made_audio y by_audio.0 refl (rw (itself a) at e)).0 ∙ f))))
 
@@ -143,7 +154,8 @@ module _ {P Q : Type 0} {p : Meaning P} {q : Meaning Q} {es : List Entry} where
       event_lane = on_lane me refl w by_event.1 (λ z e. absurd (none-some z (rw (itself a) at e))) other_kind
           (event_on (x.sent.of_kinds w) (kind_is P Q w) t y)
 
-    pub held_event : (t : ℕ) (y : Either P Q) → HeldAt p q es (h ++ (record { side = a; call = event t y; answer = (trunk.event s t y).0 } ∷ [])) a (trunk.event s t y).1
+    pub held_event : (t : ℕ) (y : Either P Q)
+        → HeldAt p q es (h ++ (record { side = a; call = event t y; answer = (trunk.event s t y).0 } ∷ [])) a (trunk.event s t y).1
     held_event t (either.First y) = event_lane First t y
     held_event t (either.Second y) = event_lane Second t y
 
@@ -159,6 +171,8 @@ module _ {P Q : Type 0} {p : Meaning P} {q : Meaning Q} {es : List Entry} where
       due_lane = on_lane md refl w by_due.1 (due_kind (x.sent.of_kinds w) (kind_is P Q w) t room)
           (λ v f. brings_none h md a v refl) (due_on (x.sent.of_kinds w) (kind_is P Q w) t room)
 
-    pub held_due : (w : WhichKind) (t room : ℕ) → HeldAt p q es (h ++ (record { side = a; call = due w t room; answer = (trunk.due p q s w t room).0 } ∷ [])) a (trunk.due p q s w t room).1
+    pub held_due : (w : WhichKind) (t room : ℕ)
+        → HeldAt p q es (h ++ (record { side = a; call = due w t room; answer = (trunk.due p q s w t room).0 } ∷ [])) a
+        (trunk.due p q s w t room).1
     held_due First t room = due_lane First t room
     held_due Second t room = due_lane Second t room

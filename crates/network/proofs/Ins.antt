@@ -1,5 +1,6 @@
 -- What a list of calls tells of a stream that is received, and what one more sound arrival is there. Assumes nothing.
-use Rattle.std.proofs.Common.{◌≡◌, ℕ, ◌≤◌, Bool, true, false, cond, ◌&&◌, leb, List, [], ◌∷◌, ◌++◌, is_some, Some, None, Ok, Err, Option, Result, sym, refl, ap, ◌∙◌, subst, arith}
+use Rattle.std.proofs.Common.{◌≡◌, ℕ, ◌≤◌, Bool, true, false, cond, ◌&&◌, leb, List, [], ◌∷◌, ◌++◌, is_some, Some, None, Ok, Err}
+use Rattle.std.proofs.Common.{Option, Result, sym, refl, ap, ◌∙◌, subst, arith}
 use Rattle.std.specs.List.{list_all, filter, cons_option}
 use Rattle.std.proofs.lemmas.Grind.{common_steps}
 use Rattle.std.proofs.lemmas.Bool.{leb-true, ltb-true, and_parts}
@@ -53,7 +54,8 @@ module _ {P Q : Type 0} where
   come_before h m a t e = (come_parts h m a t e).0
 
   -- the last to arrive came by then too
-  pub come_now : (h : List (Moment P Q)) (m : Moment P Q) (x : Arrival P Q) → arrival m ≡ Some x → (t : ℕ) → Come x.side (h ++ (m ∷ [])) t → x.time ≤ t
+  pub come_now : (h : List (Moment P Q)) (m : Moment P Q) (x : Arrival P Q) → arrival m ≡ Some x → (t : ℕ) → Come x.side (h ++ (m ∷ [])) t
+      → x.time ≤ t
   come_now h m x arrives t e =
       let last = (come_parts h m x.side t e).1 in
       leb-true x.time t (and_parts (leb x.time t) true (rw (itself x.side) at (rw arrives at last))).0
@@ -65,18 +67,22 @@ module _ {P Q : Type 0} where
     pub order : (t : ℕ) → Come a h t → y.arrival.time ≤ t
 
   traced_stays : {h : List (Moment P Q)} (m : Moment P Q) {a : Side} {y : Sound P Q} → Traced h a y → Traced (h ++ (m ∷ [])) a y
-  traced_stays {h} m {a} {y} r = record { from = r.from; made = packet_stays h m (other a) r.from y.packet r.made; order = λ t e. r.order t (come_before h m a t e) }
+  traced_stays {h} m {a} {y} r =
+      record { from = r.from; made = packet_stays h m (other a) r.from y.packet r.made; order = λ t e. r.order t (come_before h m a t e) }
 
   -- a stream that is received holds the sound arrival with the latest time
-  pub record On (label : Packet P Q → ℕ) (turn unit : ℕ) (h : List (Moment P Q)) (a : Side) (stream : Stream) (last_news : Option LatestNews) : Type 0 where
+  pub record On (label : Packet P Q → ℕ) (turn unit : ℕ) (h : List (Moment P Q)) (a : Side) (stream : Stream)
+      (last_news : Option LatestNews) : Type 0 where
     pub heard : Hears (point label) is_told turn unit (sounds a stream h) last_news
     pub traced : (y : Sound P Q) → greatest made_for (sounds a stream h) ≡ Some y → Traced h a y
 
   pub new_on : (label : Packet P Q → ℕ) (turn unit : ℕ) (a : Side) (stream : Stream) → On label turn unit [] a stream None
   new_on label turn unit a stream = record { heard = refl; traced = λ y e. absurd (none-some y e) }
 
-  pub on_stays : {label : Packet P Q → ℕ} {turn unit : ℕ} {h : List (Moment P Q)} (m : Moment P Q) {a : Side} {stream : Stream} {last_news : Option LatestNews}
-      → sounds a stream (h ++ (m ∷ [])) ≡ sounds a stream h → On label turn unit h a stream last_news → On label turn unit (h ++ (m ∷ [])) a stream last_news
+  pub on_stays : {label : Packet P Q → ℕ} {turn unit : ℕ} {h : List (Moment P Q)} (m : Moment P Q) {a : Side} {stream : Stream}
+      {last_news : Option LatestNews}
+      → sounds a stream (h ++ (m ∷ [])) ≡ sounds a stream h → On label turn unit h a stream last_news
+      → On label turn unit (h ++ (m ∷ [])) a stream last_news
   on_stays m e r = record { heard = rw e r.heard; traced = λ y f. traced_stays m (r.traced y (rw e at f)) }
 
   -- ---- answers
@@ -102,9 +108,11 @@ module _ {P Q : Type 0} where
 
   -- ---- one sound arrival
 
-  -- The call m brings the sound arrival z on a stream: what is told of it is right, it leaves the other streams as they were, and on its own it is
+  -- The call m brings the sound arrival z on a stream: what is told of it is right, it leaves the other streams as they were, and on
+  -- its own it is
   -- the one with the latest time where it is news.
-  pub record OneMore (label : Packet P Q → ℕ) (turn unit : ℕ) (h : List (Moment P Q)) (a : Side) (stream : Stream) (last_news : Option LatestNews) (news : Bool) (m : Moment P Q)
+  pub record OneMore (label : Packet P Q → ℕ) (turn unit : ℕ) (h : List (Moment P Q)) (a : Side) (stream : Stream)
+      (last_news : Option LatestNews) (news : Bool) (m : Moment P Q)
       (z : Sound P Q) : Type 0 where
     pub right : Right h z.arrival
     pub apart : (n : Stream) → same_stream stream n ≡ false → sounds a n (h ++ (m ∷ [])) ≡ sounds a n h
@@ -116,13 +124,16 @@ module _ {P Q : Type 0} where
     abbrev pub copying : Option (Named P Q) → Sound P Q
     copying n = record { arrival = arriving a t uui o i n; packet = pk }
 
-    module _ (made : packet_from (other a) h i ≡ Some pk) (whole : intact pk (arriving a t uui o i None) ≡ true) (stream_is : stream_of pk.content ≡ stream)
-        (in_time : pk.time ≤ 1099511627775) (tells : Tells turn unit (point label (copying None))) (span_is : span es pk.content ≡ turn) (in_order : Come a h t)
+    module _ (made : packet_from (other a) h i ≡ Some pk) (whole : intact pk (arriving a t uui o i None) ≡ true)
+        (stream_is : stream_of pk.content ≡ stream)
+        (in_time : pk.time ≤ 1099511627775) (tells : Tells turn unit (point label (copying None))) (span_is : span es pk.content ≡ turn)
+        (in_order : Come a h t)
         (n : Option (Named P Q)) (ages : age_rule es h (arriving a t uui o i n) ≡ true) where
       is_sound : (n : Option (Named P Q)) → sound h (arriving a t uui o i n) ≡ Some (copying n)
       is_sound n = rw (made, whole) refl
 
-      near : (y : Sound P Q) → greatest made_for (sounds a stream h) ≡ Some y → Near (point label) is_told turn unit y (point label (copying None))
+      near : (y : Sound P Q) → greatest made_for (sounds a stream h) ≡ Some y
+          → Near (point label) is_told turn unit y (point label (copying None))
       near y leads = record {
         order = (on.traced y leads).order t in_order;
         ages = ltb-true _ turn (rw (is_sound n, stream_is, leads, span_is) at ages);
@@ -132,9 +143,11 @@ module _ {P Q : Type 0} where
       answer = novelty turn unit last_news (label pk) t
 
       heard_next : Next (point label) is_told turn unit (sounds a stream h) last_news (point label (copying None)) answer
-      heard_next = next (point label) is_told turn unit (sounds a stream h) last_news (point label (copying None)) on.heard tells in_time near
+      heard_next =
+          next (point label) is_told turn unit (sounds a stream h) last_news (point label (copying None)) on.heard tells in_time near
 
-      since_of : (x : Option (Sound P Q)) (c : Option (Named P Q)) (n : ℕ) → Passed (point label) is_told turn unit x (point label (copying None)) n → Since x (copying c) n
+      since_of : (x : Option (Sound P Q)) (c : Option (Named P Q)) (n : ℕ)
+          → Passed (point label) is_told turn unit x (point label (copying None)) n → Since x (copying c) n
       since_of None c n p = p
       since_of (Some y) c n p = p
 
@@ -157,7 +170,8 @@ module _ {P Q : Type 0} where
         grown : sounds a stream (h ++ (m ∷ [])) ≡ sounds a stream h ++ (z ∷ [])
         grown = sounds_more h m a stream z is_now (on_which stream ∙ stream_itself stream)
 
-        leads_after : greatest made_for (sounds a stream (h ++ (m ∷ []))) ≡ cond (is_news answer) (Some z) (greatest made_for (sounds a stream h))
+        leads_after : greatest made_for (sounds a stream (h ++ (m ∷ []))) ≡ cond (is_news answer) (Some z)
+            (greatest made_for (sounds a stream h))
         leads_after = ap (greatest made_for) grown ∙ heard_next.leads z refl
 
         on_after : On label turn unit (h ++ (m ∷ [])) a stream (latest_after last_news (label pk) t answer)
@@ -177,16 +191,20 @@ module _ {P Q : Type 0} where
           origin = λ n e. by n answer refl (sym names ∙ e);
         }
           where
-            by : (n : Named P Q) (x : Result (Novelty Advance) Refusal) → answer ≡ x → naming pk.content x ≡ Some n → Origin h (arriving a t uui o i (news_of r)) n
+            by : (n : Named P Q) (x : Result (Novelty Advance) Refusal) → answer ≡ x → naming pk.content x ≡ Some n
+                → Origin h (arriving a t uui o i (news_of r)) n
             by n (Ok (News k)) is e =
                 let same = same_Some (record { content = pk.content; elapsed = k.elapsed }) n e in
                 record {
                   copy = z;
                   is_sound = is_sound (news_of r);
                   content = ap (λ (v : Named P Q). v.content) (sym same);
-                  elapsed = rw (stream_is, ← ap (λ (v : Named P Q). v.elapsed) same) (since_of (latest_news (sounds a stream h)) (news_of r) k.elapsed (heard_next.since k is));
+                  elapsed =
+                      rw (stream_is, ← ap (λ (v : Named P Q). v.elapsed) same)
+                      (since_of (latest_news (sounds a stream h)) (news_of r) k.elapsed (heard_next.since k is));
                 }
             by n x is e = absurd (none-some n e)
 
         pub one_more : OneMore label turn unit h a stream (latest_after last_news (label pk) t answer) (is_news answer) m z
-        one_more = record { apart = λ n e. sounds_stay h m a n (rw (is_now, on_which n, e) refl); leads = leads_after; on_after = on_after; right = right }
+        one_more =
+            record { apart = λ n e. sounds_stay h m a n (rw (is_now, on_which n, e) refl); leads = leads_after; on_after = on_after; right = right }

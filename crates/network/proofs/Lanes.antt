@@ -72,8 +72,10 @@ module _ {P Q : Type 0} where
   of_both F Second x y = y
 
   -- what is so of the new one, and of the other as it was, is so of both
-  pub lane_by_lane : (F : Type 0 → Type 0) (w : WhichKind) (r : F (Of P Q w)) (x : F P) (y : F Q) (So : (v : WhichKind) → F (Of P Q v) → Type 0)
-      → So w r → ((v : WhichKind) → same_kind w v ≡ false → So v (of_both F v x y)) → (v : WhichKind) → So v (of_both F v (new_first P Q F w r x) (new_second P Q F w r y))
+  pub lane_by_lane : (F : Type 0 → Type 0) (w : WhichKind) (r : F (Of P Q w)) (x : F P) (y : F Q)
+      (So : (v : WhichKind) → F (Of P Q v) → Type 0)
+      → So w r → ((v : WhichKind) → same_kind w v ≡ false → So v (of_both F v x y)) → (v : WhichKind)
+      → So v (of_both F v (new_first P Q F w r x) (new_second P Q F w r y))
   lane_by_lane F First r x y So new others First = new
   lane_by_lane F First r x y So new others Second = others Second refl
   lane_by_lane F Second r x y So new others First = others First refl
@@ -107,7 +109,8 @@ module _ {P Q : Type 0} where
     read_lane lp lq ne Second x fit = second_written p q lp lq x fit ne
 
     -- and goes to its stream
-    abbrev pub received : (w : WhichKind) → End P Q → ℕ → Payload (Of P Q w) → Result (Novelty (MessageNews (Of P Q w))) Refusal × Inbound (Of P Q w)
+    abbrev pub received : (w : WhichKind) → End P Q → ℕ → Payload (Of P Q w)
+        → Result (Novelty (MessageNews (Of P Q w))) Refusal × Inbound (Of P Q w)
     received w s a x = receive (meaning w) (into w s) a x
 
     pub arrive_lane : (w : WhichKind) (s : End P Q) (a : ℕ) (x : Payload (Of P Q w))
@@ -116,15 +119,18 @@ module _ {P Q : Type 0} where
     arrive_lane Second s a x = refl
 
     -- what is news there names the message
-    pub news_lane : (w : WhichKind) (r : Inbound (Of P Q w)) (x : Payload (Of P Q w)) (novelty : Result (Novelty Advance) Refusal) (last_news : Option LatestNews)
+    pub news_lane : (w : WhichKind) (r : Inbound (Of P Q w)) (x : Payload (Of P Q w)) (novelty : Result (Novelty Advance) Refusal)
+        (last_news : Option LatestNews)
         → news_of (on_lane P Q w (receive_by (meaning w) r x novelty last_news).0) ≡ naming (message (inj P Q w x.message)) novelty
     news_lane First r x novelty last_news = grind (arith, common_steps)
     news_lane Second r x novelty last_news = grind (arith, common_steps)
 
 -- the stream after a payload: where it stands, and what is in force
 module _ {M : Type 0} (k : Meaning M) (s : Inbound M) (x : Payload M) (label a : ℕ) where
-  pub placed_by : (r : Result (Novelty Advance) Refusal) → (receive_by k s x r (latest_after s.last_news label a r)).1.last_news ≡ latest_after s.last_news label a r
+  pub placed_by : (r : Result (Novelty Advance) Refusal)
+      → (receive_by k s x r (latest_after s.last_news label a r)).1.last_news ≡ latest_after s.last_news label a r
   placed_by r = grind (arith, common_steps)
 
-  pub force_by : (r : Result (Novelty Advance) Refusal) (last_news : Option LatestNews) → (receive_by k s x r last_news).1.force ≡ cond (is_news r) (Some x.message) s.force
+  pub force_by : (r : Result (Novelty Advance) Refusal) (last_news : Option LatestNews)
+      → (receive_by k s x r last_news).1.force ≡ cond (is_news r) (Some x.message) s.force
   force_by r last_news = grind (arith, common_steps)

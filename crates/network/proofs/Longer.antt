@@ -1,5 +1,6 @@
 -- A history with one more moment: what was made, what arrived and what was accepted then. Assumes nothing.
-use Rattle.std.proofs.Common.{◌≡◌, ℕ, zero, suc, Bool, true, cond, ◌&&◌, List, [], ◌∷◌, ◌++◌, take, Some, None, Option, refl, ap, ◌∙◌, append-nil}
+use Rattle.std.proofs.Common.{◌≡◌, ℕ, zero, suc, Bool, true, cond, ◌&&◌, List, [], ◌∷◌, ◌++◌, take, Some, None, Option, refl, ap, ◌∙◌}
+use Rattle.std.proofs.Common.{append-nil}
 use Rattle.std.specs.List.{slice_get, filter, cons_option}
 use Rattle.std.specs.Option.{option_map, option_flatten}
 use Rattle.std.proofs.lemmas.Option.{none-some}
@@ -26,7 +27,8 @@ place_of : {X : Type 0} (h : List X) (m : X) (i : ℕ) → Place h m i
 place_of [] m zero = new refl refl refl
 place_of [] m (suc i) = beyond refl refl
 place_of (y ∷ h) m zero = inside refl refl
-place_of (y ∷ h) m (suc i) = elim (place_of h m i) [ inside t n ↦ inside (cc) n | new t n past ↦ new (cc) n past | beyond n past ↦ beyond n past ]
+place_of (y ∷ h) m (suc i) =
+    elim (place_of h m i) [ inside t n ↦ inside (cc) n | new t n past ↦ new (cc) n past | beyond n past ↦ beyond n past ]
 
 -- where there was no call, there is no packet
 pub unmade : {P Q : Type 0} (side : Side) (i : Option ℕ) (x : Packet P Q) → packet_from side [] i ≡ Some x → ⊥
@@ -50,7 +52,8 @@ module _ {P Q : Type 0} (h : List (Moment P Q)) (m : Moment P Q) where
   ]
 
   -- a packet that was made stays
-  pub packet_stays : (side : Side) (i : Option ℕ) (x : Packet P Q) → packet_from side h i ≡ Some x → packet_from side (h ++ (m ∷ [])) i ≡ Some x
+  pub packet_stays : (side : Side) (i : Option ℕ) (x : Packet P Q) → packet_from side h i ≡ Some x
+      → packet_from side (h ++ (m ∷ [])) i ≡ Some x
   packet_stays side None x e = absurd (none-some x e)
   packet_stays side (Some i) x e = elim (place_of h m i) [
     | inside t n ↦ rw (t, n) e
@@ -66,16 +69,19 @@ module _ {P Q : Type 0} (h : List (Moment P Q)) (m : Moment P Q) where
   abbrev pub of_kind : WhichKind → Option (Event (Either P Q)) → List (Event (Either P Q))
   of_kind which o = filter (λ e. same_kind (kind_of e.message) which) (cons_option o [])
 
-  pub events_snoc : (side : Side) (which : WhichKind) → events side which (h ++ (m ∷ [])) ≡ events side which h ++ of_kind which (accepted_at side)
+  pub events_snoc : (side : Side) (which : WhichKind)
+      → events side which (h ++ (m ∷ [])) ≡ events side which h ++ of_kind which (accepted_at side)
   events_snoc side which = rw (gather_snoc, filter-append) refl
 
   -- a call that brings no event of a kind
-  pub events_stay : (side : Side) (which : WhichKind) → of_kind which (accepted_at side) ≡ [] → events side which (h ++ (m ∷ [])) ≡ events side which h
+  pub events_stay : (side : Side) (which : WhichKind) → of_kind which (accepted_at side) ≡ []
+      → events side which (h ++ (m ∷ [])) ≡ events side which h
   events_stay side which e = events_snoc side which ∙ ap (λ es. events side which h ++ es) e ∙ append-nil (events side which h)
 
   -- ---- arrivals
 
-  pub arrivals_snoc : (side : Side) → arrivals side (h ++ (m ∷ [])) ≡ arrivals side h ++ filter (λ x. same_side side x.side) (cons_option (arrival m) [])
+  pub arrivals_snoc : (side : Side)
+      → arrivals side (h ++ (m ∷ [])) ≡ arrivals side h ++ filter (λ x. same_side side x.side) (cons_option (arrival m) [])
   arrivals_snoc side = rw (gather_snoc, filter-append) refl
 
   -- the sound arrival of the last call, if it is one
@@ -85,11 +91,13 @@ module _ {P Q : Type 0} (h : List (Moment P Q)) (m : Moment P Q) where
   abbrev pub on_it : Side → Stream → Sound P Q → Bool
   on_it side stream s = same_side side s.arrival.side && same_stream (stream_of s.packet.content) stream
 
-  sounds_snoc : (side : Side) (stream : Stream) → sounds side stream (h ++ (m ∷ [])) ≡ sounds side stream h ++ filter (on_it side stream) (cons_option sound_now [])
+  sounds_snoc : (side : Side) (stream : Stream)
+      → sounds side stream (h ++ (m ∷ [])) ≡ sounds side stream h ++ filter (on_it side stream) (cons_option sound_now [])
   sounds_snoc side stream = rw (gather_snoc, filter-append) refl
 
   -- what is not sound, or on another stream, or at the other side, leaves a stream as it was; what is on it is one more
-  pub sounds_stay : (side : Side) (stream : Stream) → filter (on_it side stream) (cons_option sound_now []) ≡ [] → sounds side stream (h ++ (m ∷ [])) ≡ sounds side stream h
+  pub sounds_stay : (side : Side) (stream : Stream) → filter (on_it side stream) (cons_option sound_now []) ≡ []
+      → sounds side stream (h ++ (m ∷ [])) ≡ sounds side stream h
   sounds_stay side stream e = rw (sounds_snoc side stream, e) (append-nil (sounds side stream h))
 
   pub sounds_more : (side : Side) (stream : Stream) (z : Sound P Q) → sound_now ≡ Some z → on_it side stream z ≡ true

@@ -25,7 +25,8 @@ use Rattle.network.proofs.Longer.{of_kind, events_snoc, events_stay}
 use Rattle.network.proofs.Sends.{packet, brought, gave, Sends, on_stream, read_off}
 
 -- a call that brings no event
-pub brings_none : {P Q : Type 0} (h : List (Moment P Q)) (m : Moment P Q) (side : Side) (which : WhichKind) → accepted m.call m.answer ≡ None
+pub brings_none : {P Q : Type 0} (h : List (Moment P Q)) (m : Moment P Q) (side : Side) (which : WhichKind)
+    → accepted m.call m.answer ≡ None
     → events side which (h ++ (m ∷ [])) ≡ events side which h
 brings_none h m side which e = events_stay h m side which (grind (arith, common_steps))
 
@@ -65,7 +66,8 @@ module _ {P Q M : Type 0} {k : Meaning M} {inj : M → Either P Q} {side : Side}
         let of = due_is k s held.sent held.kept t d is in
         rw (held.latest, of.1, read_off k inj of.0 held.sent t d of.2) at e
 
-    asked_so : (y : Packet P Q) (o : Option Refusal) → packets.made h side (due which t room) (unless o s (sent k s t (due_of s t))).0 ≡ Some y
+    asked_so : (y : Packet P Q) (o : Option Refusal)
+        → packets.made h side (due which t room) (unless o s (sent k s t (due_of s t))).0 ≡ Some y
         → gave k inj (did_due t (due_of s t) (unless o s (sent k s t (due_of s t))).0) ≡ Some y
     asked_so y None e = made_so y (due_of s t) refl e
     asked_so y (Some f) e = absurd (none-some y e)
@@ -82,5 +84,6 @@ module _ {P Q M : Type 0} {k : Meaning M} {inj : M → Either P Q} {side : Side}
     due_kind y e = by (does k s (calls.due t room)) (makes y e)
       where
         by : (d : Outcome M) → gave k inj d ≡ Some y → stream_of y.content ≡ Messages which
-        by (made u d) g = ap (λ (z : Packet P Q). stream_of z.content) (sym (same_Some (packet k inj d) y g)) ∙ ap Messages (kind_is d.message)
+        by (made u d) g = ap (λ (z : Packet P Q). stream_of z.content) (sym (same_Some (packet k inj d) y g))
+            ∙ ap Messages (kind_is d.message)
         by d g = absurd (none-some y g)

@@ -114,7 +114,8 @@ module _ {P Q : Type 0} where
   news_of (Err f) = None
 
   abbrev pub arrival_by : Side → (c : Call P Q) → AnswerTo c → Option (Arrival P Q)
-  arrival_by side (arrive t uui o copies) r = Some (record { side = side; time = t; uui = uui; octets = o; copies = copies; news = news_of r })
+  arrival_by side (arrive t uui o copies) r =
+      Some (record { side = side; time = t; uui = uui; octets = o; copies = copies; news = news_of r })
   arrival_by side (audio t place payload) r = None
   arrival_by side (event t m) r = None
   arrival_by side (due which t room) r = None

@@ -112,7 +112,8 @@ module _ {X : Type 0} (point : X → Point) (news : X → Bool) (span unit : ℕ
         }
 
     -- made for no later time, it leaves the stream as it was
-    is_still : (r : Result (Novelty Advance) Refusal) → x.time ≤ time y → expected_beside (time first) (Some (point y)) x ≡ r → is_news r ≡ false
+    is_still : (r : Result (Novelty Advance) Refusal) → x.time ≤ time y → expected_beside (time first) (Some (point y)) x ≡ r
+        → is_news r ≡ false
         → latest_after s x.label x.arrival r ≡ s → Next (first ∷ xs) s x r
     is_still r l is quiet stays =
         let t = le-ltb (time y) x.time l in

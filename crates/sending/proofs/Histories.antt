@@ -5,7 +5,8 @@ use Rattle.type3.specs.Kinds.{Meaning}
 use Rattle.sending.specs.declared.event.Event.{Event}
 use Rattle.sending.specs.Sending.{Outbound, new_sender}
 use Rattle.sending.specs.declared.event.DuePacket.{DuePacket}
-use Rattle.sending.specs.Runs.{SenderCall, Outcome, accepted, made, neither, does, step, history, latest_from, since_from, since, had_from, had}
+use Rattle.sending.specs.Runs.{SenderCall, Outcome, accepted, made, neither, does, step, history, latest_from, since_from, since}
+use Rattle.sending.specs.Runs.{had_from, had}
 use Rattle.sending.specs.Runs.{SendsLawfully}
 use Rattle.sending.proofs.Turns.{each_call}
 use Rattle.sending.proofs.Kept.{Kept, kept_new, kept_on}
@@ -14,7 +15,8 @@ use Rattle.sending.proofs.Behind.{Behind, stays, accepted_ahead, Making, making}
 module _ {M : Type 0} where
   -- ---- the words for a history, one thing after another
 
-  latest_more : (o : Option (Event M)) (d : Outcome M) (ds : List (Outcome M)) → latest_from o (d ∷ ds) ≡ latest_from (latest_from o (d ∷ [])) ds
+  latest_more : (o : Option (Event M)) (d : Outcome M) (ds : List (Outcome M))
+      → latest_from o (d ∷ ds) ≡ latest_from (latest_from o (d ∷ [])) ds
   latest_more o d ds = grind arith
 
   since_more : (ts : List ℕ) (d : Outcome M) (ds : List (Outcome M)) → since_from ts (d ∷ ds) ≡ since_from (since_from ts (d ∷ [])) ds
@@ -78,7 +80,8 @@ module _ {M : Type 0} where
 
     -- ---- calls after a time is behind
 
-    later_events : (s : Outbound M) (ts : List ℕ) (x : ℕ) → Kept k s ts → Behind s x → (cs : List (SenderCall M)) (before rest : List (Outcome M))
+    later_events : (s : Outbound M) (ts : List ℕ) (x : ℕ) → Kept k s ts → Behind s x
+        → (cs : List (SenderCall M)) (before rest : List (Outcome M))
         (e : Event M) →
         history k s cs ≡ before ++ (accepted e ∷ rest) → x < e.time
     later_events s ts x kept b [] [] rest e h = cc

@@ -1,5 +1,6 @@
 -- A packet needs no more room than twelve octets. Assumes nothing.
-use Rattle.std.proofs.Common.{◌≡◌, ℕ, ◌+◌, min, List, length, take, Some, None, Ok, Err, Option, Result, nat_le, sym, refl, ap, ◌∙◌, arith, length-take}
+use Rattle.std.proofs.Common.{◌≡◌, ℕ, ◌+◌, min, List, length, take, Some, None, Ok, Err, Option, Result, nat_le, sym, refl, ap, ◌∙◌}
+use Rattle.std.proofs.Common.{arith, length-take}
 use Rattle.std.proofs.lemmas.Bool.Decides.{nat_tests}
 use Rattle.refusal.specs.declared.Refusal.{Refusal}
 use Rattle.type3.specs.Kinds.{Meaning, Lawful}
@@ -18,7 +19,8 @@ module _ {M : Type 0} (k : Meaning M) (law : Lawful k) where
   due_fits s t room = rw (fits room) refl
 
 -- what is told of a count was told of the octets
-refused_back : (r : Result (Option (List ℕ)) Refusal) (f : Refusal) → counted r ≡ Err f → ◌≡◌ {A = Result (Option (List ℕ)) Refusal} (Err f) r
+refused_back : (r : Result (Option (List ℕ)) Refusal) (f : Refusal) → counted r ≡ Err f
+    → ◌≡◌ {A = Result (Option (List ℕ)) Refusal} (Err f) r
 refused_back (Ok (Some o)) f e = cc
 refused_back (Ok None) f e = cc
 refused_back (Err g) f e = cc
@@ -35,7 +37,8 @@ module _ {P Q : Type 0} (p : Meaning P) (q : Meaning Q) (lp : Lawful p) (lq : La
         let count : length (take n xs) ≡ min room 12 = length-take n xs ∙ ap (min n) twelve ∙ omega arith in
         ap (due p q s which t) count ∙ in_twelve which t room
 
-    pub refused_in_first : (r : Result (Option ℕ) Refusal) (f : Refusal) → r ≡ counted (due p q s which t (length (take n xs))).0 → r ≡ Err f
+    pub refused_in_first : (r : Result (Option ℕ) Refusal) (f : Refusal) → r ≡ counted (due p q s which t (length (take n xs))).0
+        → r ≡ Err f
         → n ≡ min room 12 → ◌≡◌ {A = Result (Option (List ℕ)) Refusal} (Err f) (due p q s which t room).0
     refused_in_first r f is refused e = refused_back (due p q s which t room).0 f (sym (rw (in_first e) at is) ∙ refused)
 

@@ -14,7 +14,8 @@ loop-turn-preserved g c =
     drop_more turns i c.turn-item.result c.loop-turn-test.true ∙ ap (λ x. x ∷ drop (i + 1) turns) (sym c.turn-item.is) in
     let pushed = c.push.ensures in
     let ok = c.unwrap.ensures in
-    goes_on g.P.Kind.model g.Q.Kind.model _ _ _ c.loop-turn.invariant _ _ (ap (map turn_of) item) c.take.new.self c.take.ensures.after c.take.result
+    goes_on g.P.Kind.model g.Q.Kind.model _ _ _ c.loop-turn.invariant _ _ (ap (map turn_of) item) c.take.new.self c.take.ensures.after
+    c.take.result
     c.take.ensures.value c.push.new.self (rw ok at pushed.items) (rw ok at pushed.len) pushed.capacity
 
 pub returns-clause-answers : goal.returns-clause-answers
@@ -33,7 +34,8 @@ returns-clause-ends g c =
 
 pub returns-clause-law : goal.returns-clause-law
 returns-clause-law g c =
-    subst (λ ends. Law g.P.Kind.model g.Q.Kind.model c.args.near c.args.far (map turn_of c.args.turns.now) ends) (sym (returns-clause-ends g c))
+    subst (λ ends. Law g.P.Kind.model g.Q.Kind.model c.args.near c.args.far (map turn_of c.args.turns.now) ends)
+    (sym (returns-clause-ends g c))
     (the_law g.P.Kind.model g.Q.Kind.model g.met.P.Kind.lawful g.met.Q.Kind.lawful c.args.near c.args.far c.start-ends.ensures.loads (map turn_of c.args.turns.now))
 
 pub returns-clause-once : goal.returns-clause-once
