@@ -1,11 +1,11 @@
-// The calls of a list, and what they are answered.
+//! The calls of a list, and what they are answered.
 use crate::side::Side;
 use refusal::Refusal;
 use trunk::{Arrived, WhichKind};
 use type3::{LONGEST, OctetBuffer};
 
-// A call on an end, with octets `O` and a message `M`. (They are type arguments, since an enum may not hold both a reference and
-// a struct that has a ghost field, as digits have.)
+/// A call on an end, with octets `O` and a message `M`. (They are type arguments, since an enum may not hold both a reference and
+/// a struct that has a ghost field, as digits have.)
 #[derive(Clone, Copy, Debug)]
 pub enum Call<O, M> {
     Audio {
@@ -32,14 +32,14 @@ pub enum Call<O, M> {
     },
 }
 
-// A call on the end at a side.
+/// A call on the end at a side.
 #[derive(Clone, Copy, Debug)]
 pub struct Turn<O, M> {
     pub side: Side,
     pub call: Call<O, M>,
 }
 
-// What a call of each sort is answered. What was due is answered with its octets.
+/// What a call of each sort is answered. What was due is answered with its octets.
 #[derive(Drop)]
 pub enum Answer<X, Y> {
     Audio(Result<u16, Refusal>),

@@ -1,4 +1,4 @@
-// Two ends of a trunk and a network between them: what is true of every list of calls on them.
+//! Two ends of a trunk and a network between them: what is true of every list of calls on them.
 #![tactic(auto)]
 
 mod call;

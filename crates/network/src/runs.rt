@@ -1,4 +1,4 @@
-// A list of calls on two ends that are just started.
+//! A list of calls on two ends that are just started.
 ghost use Rattle.std.specs.Prelude.{◌≡◌, IfOk, IfErr, map};
 ghost use Rattle.profile.specs.declared.load.LoadError.TheVariants.{Memory};
 ghost use Rattle.network.specs.Runs.{begun, after, history};
@@ -13,14 +13,14 @@ use std::alloc::Global;
 use trunk::SetUp;
 use type3::{Either, Kind};
 
-// The two ends after a list of calls, and each call's answer.
+/// The two ends after a list of calls, and each call's answer.
 #[derive(Drop)]
 pub struct Run<P: Kind, Q: Kind> {
     pub ends: Ends<P, Q>,
     pub answers: Vec<Answer<P::Message, Q::Message>>,
 }
 
-// There was no memory for the answers, and nothing was started.
+/// There was no memory for the answers, and nothing was started.
 #[derive(Drop)]
 pub struct NoMemory {
     pub near: SetUp,
@@ -36,7 +36,7 @@ impl From<NoMemory> for LoadError {
     }
 }
 
-// Starts two ends, and makes the calls one after another.
+/// Starts two ends, and makes the calls one after another.
 pub fn simulate<P: Kind, Q: Kind>(
     alloc: Global,
     near: SetUp,

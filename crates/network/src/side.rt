@@ -1,4 +1,4 @@
-// The two ends of a trunk.
+//! The two ends of a trunk.
 #[derive(Clone, Copy, Debug, PartialEq, Eq)]
 pub enum Side {
     Near,

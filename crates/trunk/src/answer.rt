@@ -1,17 +1,17 @@
-// What an end answers to an arrival, and which of its kinds is meant.
+//! What an end answers to an arrival, and which of its kinds is meant.
 ghost use Rattle.std.specs.Prelude.{◌≡◌};
 ghost use Rattle.trunk.specs.Streams.{on_stream};
 
 use placing::{Advance, MessageNews, Novelty};
 
-// An end has two kinds of message.
+/// One of the two kinds of message that an end has.
 #[derive(Clone, Copy, Debug, PartialEq, Eq)]
 pub enum WhichKind {
     First,
     Second,
 }
 
-// News of the audio stream: the place of its entry in the profile, and how far it moved.
+/// News of the audio stream: the place of its entry in the profile, from 0, and how far it is after the news before.
 #[derive(Clone, Copy, Debug, PartialEq, Eq)]
 pub struct AudioNews {
     pub place: usize,

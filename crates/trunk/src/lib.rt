@@ -1,4 +1,4 @@
-// One end of a trunk: audio and messages of two kinds, sent and received.
+//! One end of an I.366.2 trunk: audio and messages of two kinds, sent and received. It is set up, put into service, and stopped.
 #![tactic(auto)]
 
 mod answer;

@@ -1,4 +1,4 @@
-// An end in service.
+//! An end in service.
 ghost use Rattle.std.specs.Prelude.{◌≡◌};
 ghost use Rattle.trunk.specs.End.{in_force};
 
@@ -10,6 +10,7 @@ use sending::{AudioSender, Sender};
 use std::marker::Model;
 use type3::{Either, Kind};
 
+/// An end in service, over two kinds of message. In contracts it is the record of the definitions.
 #[derive(Drop)]
 pub struct InService<P: Kind, Q: Kind> {
     pub(crate) profile: Profile,
@@ -41,7 +42,7 @@ impl<P: Kind, Q: Kind> Model for InService<P, Q> {
 }
 
 impl<P: Kind, Q: Kind> InService<P, Q> {
-    // The message in force on the stream of a kind: that of its latest news.
+    /// The message in force on the stream of a kind: that of its latest news, and none before the first.
     pub fn in_force(&self, which: WhichKind) -> Option<Either<P::Message, Q::Message>>
         ensures { result ≡ in_force self.now which }
     {
@@ -51,7 +52,7 @@ impl<P: Kind, Q: Kind> InService<P, Q> {
         }
     }
 
-    // The end in set-up, with its profile.
+    /// The end in set-up, with its profile.
     pub fn stop(self) -> SetUp
         ensures { result ≡ self.profile }
     {

@@ -1,4 +1,4 @@
-// An end in set-up.
+//! An end in set-up.
 ghost use Rattle.std.specs.Prelude.{◌≡◌, false, is_some, MatchResult};
 ghost use Rattle.profile.specs.Examples.{entries_of};
 ghost use Rattle.profile.specs.declared.examples.Example.TheVariants.{A};
@@ -15,7 +15,7 @@ use std::alloc::Global;
 use std::marker::Model;
 use type3::Kind;
 
-// It holds the profile with which it will start. In contracts it is that profile.
+/// An end in set-up holds the profile with which it will start. In contracts it is that profile.
 #[derive(Drop)]
 pub struct SetUp {
     pub(crate) profile: Profile,
@@ -34,7 +34,7 @@ impl Model for SetUp {
 }
 
 impl SetUp {
-    // A new end holds example profile A.
+    /// A new end holds example profile A.
     pub fn new(alloc: Global) -> Result<SetUp, LoadError>
         ensures { MatchResult result (λ s. s ≡ entries_of A) (λ e. e ≡ Memory) }
     {
@@ -43,7 +43,9 @@ impl SetUp {
         })
     }
 
-    // The profile becomes that of the offered entries, if they pass every question.
+    /// The profile becomes that of the offered entries, if they pass every question.
+    ///
+    /// Refused with 1 to 7, as a profile is loaded, or want of memory; then the profile stays.
     pub fn load(&mut self, alloc: Global, offered: &[Entry]) -> Result<(), LoadError>
         ensures value { Loads offered.now result }
         ensures after { self.new ≡ loaded offered.now self.old result }
@@ -52,7 +54,7 @@ impl SetUp {
         Ok(())
     }
 
-    // The end in service, over two kinds, with nothing sent and nothing received.
+    /// The end in service, over two kinds, with nothing sent and nothing received.
     pub fn start<P: Kind, Q: Kind>(self) -> InService<P, Q>
         ensures value { result ≡ started self }
         ensures loads { is_some (refusal self) ≡ false }
