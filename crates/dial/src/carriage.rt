@@ -135,7 +135,7 @@ impl Arrival {
     // Its arrival at the far end, where the calls of the near end stand at these places.
     fn turn(&self, places: &[usize]) -> DialTurn<'_> {
         let copies = match self.delivery.condition {
-            Condition::Sound | Condition::Spoiled => places.get(self.call).copy_of(),
+            Condition::Sound | Condition::Spoiled => places.get(self.call).copied(),
             Condition::Foreign => None,
         };
         Turn {
