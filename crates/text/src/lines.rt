@@ -3,23 +3,7 @@ use std::alloc::Global;
 use std::fmt;
 use std::io::{BufRead, BufReader};
 
-/// Answers each line of text.
-pub fn answer_lines<A: fmt::Display + Drop, F: FnMut(Global, &str) -> anyhow::Result<A>>(
-    rt: &HostRuntime,
-    mut answer: F,
-) -> anyhow::Result<()>
-    requires { F.IsAlwaysCallable answer }
-{
-    let alloc = rt.alloc();
-    for line in BufReader::new(alloc, rt.stdin())?.lines(alloc) {
-        let line = line?;
-        let answer = answer(alloc, line.as_str())?;
-        println!(rt; "{answer}")?;
-    }
-    Ok(())
-}
-
-/// The same where a line is words with one blank between two.
+/// Answers each line of text, as words with one blank between two.
 pub fn answer_words<A: fmt::Display + Drop, F: FnMut(Global, &[&str]) -> anyhow::Result<A>>(
     rt: &HostRuntime,
     mut answer: F,

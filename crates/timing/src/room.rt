@@ -33,6 +33,7 @@ impl Room {
         Room::new(number::<usize>(word)?)
     }
 
+    /// The length, in octets.
     pub fn get(self) -> usize
         ensures { result ≡ self.octets }
     {
