@@ -53,7 +53,8 @@ module _ {M : Type 0} where
     abbrev pub receive_by : Inbound M → Payload M → Result (Novelty Advance) Refusal → Option LatestNews
         → Result (Novelty (MessageNews M)) Refusal × Inbound M
     receive_by s x (Err f) last_news = (Err f, s)
-    receive_by s x (Ok n) last_news = (Ok (novelty_as s.force x n), record { last_news = last_news; force = force_after s.force x.message n })
+    receive_by s x (Ok n) last_news =
+        (Ok (novelty_as s.force x n), record { last_news = last_news; force = force_after s.force x.message n })
 
     -- what a payload that was read says, arriving at a time
     abbrev pub receive : Inbound M → ℕ → Payload M → Result (Novelty (MessageNews M)) Refusal × Inbound M
