@@ -182,7 +182,11 @@ module _ {P Q : Type 0} where
           where
             by : (b : Bool) (y : Sound P Q) → cond b (Some z) (greatest made_for (sounds a stream h)) ≡ Some y → Traced (h ++ (m ∷ [])) a y
             by true y e = subst (Traced (h ++ (m ∷ [])) a) (same_Some z y e)
-                (record { from = i; made = packet_stays h m (other a) i pk made; order = come_now h m (arriving a t uui o i (news_of r)) refl })
+                (record {
+                  from = i;
+                  made = packet_stays h m (other a) i pk made;
+                  order = come_now h m (arriving a t uui o i (news_of r)) refl;
+                })
             by false y e = traced_stays m (on.traced y e)
 
         right : Right h (arriving a t uui o i (news_of r))
@@ -207,4 +211,9 @@ module _ {P Q : Type 0} where
 
         pub one_more : OneMore label turn unit h a stream (latest_after last_news (label pk) t answer) (is_news answer) m z
         one_more =
-            record { apart = λ n e. sounds_stay h m a n (rw (is_now, on_which n, e) refl); leads = leads_after; on_after = on_after; right = right }
+            record {
+              apart = λ n e. sounds_stay h m a n (rw (is_now, on_which n, e) refl);
+              leads = leads_after;
+              on_after = on_after;
+              right = right;
+            }

@@ -77,7 +77,8 @@ module _ {P Q M : Type 0} {k : Meaning M} {inj : M → Either P Q} {side : Side}
 
     pub due_on : Sends k inj side which (h ++ (due_moment ∷ [])) (on.due k s t room).1
     due_on = on_stream due_moment held (calls.due t room)
-        (rw (brings_none h due_moment side which refl, brings_nothing (due_of s t) (on.due k s t room).0) (sym (append-nil (events side which h)))) makes
+        (rw (brings_none h due_moment side which refl, brings_nothing (due_of s t) (on.due k s t room).0)
+        (sym (append-nil (events side which h)))) makes
 
     -- a packet that is made is of this stream
     pub due_kind : (y : Packet P Q) → made_at side h (Some due_moment) ≡ Some y → stream_of y.content ≡ Messages which

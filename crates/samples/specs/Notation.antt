@@ -35,15 +35,18 @@ abbrev pub far : (c : Call Digit CasBits) → AnswerTo c → Moment Digit CasBit
 far c r = record { side = Far; call = c; answer = r }
 
 abbrev pub audio_news : ℕ → ℕ → ℕ → Result (Arrived Digit CasBits) Refusal
-audio_news place elapsed position = Ok (arrived.Audio (record { place = place; advance = record { elapsed = elapsed; position = position } }))
+audio_news place elapsed position =
+    Ok (arrived.Audio (record { place = place; advance = record { elapsed = elapsed; position = position } }))
 
 abbrev pub digit_news : Class → ℕ → ℕ → ℕ → Digit → Result (Arrived Digit CasBits) Refusal
 digit_news class redundancy elapsed position d =
-    Ok (arrived.First (record { class = class; redundancy = redundancy; advance = record { elapsed = elapsed; position = position }; message = d }))
+    Ok (arrived.First
+    (record { class = class; redundancy = redundancy; advance = record { elapsed = elapsed; position = position }; message = d }))
 
 abbrev pub bits_news : Class → ℕ → ℕ → ℕ → CasBits → Result (Arrived Digit CasBits) Refusal
 bits_news class redundancy elapsed position m =
-    Ok (arrived.Second (record { class = class; redundancy = redundancy; advance = record { elapsed = elapsed; position = position }; message = m }))
+    Ok (arrived.Second
+    (record { class = class; redundancy = redundancy; advance = record { elapsed = elapsed; position = position }; message = m }))
 
 -- a repeat of the latest news, or late
 abbrev pub repeat : Stream → Result (Arrived Digit CasBits) Refusal

@@ -156,7 +156,8 @@ at i find = option_map (find (take i witness)) (option_and_then arrival (slice_g
 
 -- the near end made a packet at a place of the list, and no arrival at the far end copies it
 abbrev pub lost : ℕ → Bool
-lost i = is_some (packet_from Near witness (Some i)) && list_all (λ x. not (option_map_or (λ j. i == j) x.copies false)) (arrivals Far witness)
+lost i =
+    is_some (packet_from Near witness (Some i)) && list_all (λ x. not (option_map_or (λ j. i == j) x.copies false)) (arrivals Far witness)
 
 -- What the answers alone do not show, in the words of the law.
 pub record SortsOccur : Type 0 where

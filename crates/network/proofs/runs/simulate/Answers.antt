@@ -36,7 +36,8 @@ pub returns-clause-law : goal.returns-clause-law
 returns-clause-law g c =
     subst (λ ends. Law g.P.Kind.model g.Q.Kind.model c.args.near c.args.far (map turn_of c.args.turns.now) ends)
     (sym (returns-clause-ends g c))
-    (the_law g.P.Kind.model g.Q.Kind.model g.met.P.Kind.lawful g.met.Q.Kind.lawful c.args.near c.args.far c.start-ends.ensures.loads (map turn_of c.args.turns.now))
+    (the_law g.P.Kind.model g.Q.Kind.model g.met.P.Kind.lawful g.met.Q.Kind.lawful c.args.near c.args.far
+    c.start-ends.ensures.loads (map turn_of c.args.turns.now))
 
 pub returns-clause-once : goal.returns-clause-once
 returns-clause-once g c = c.start-ends.ensures.once (map turn_of c.args.turns.now)
