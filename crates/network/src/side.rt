@@ -1,4 +1,5 @@
 //! The two ends of a trunk.
+/// One of the two ends.
 #[derive(Clone, Copy, Debug, PartialEq, Eq)]
 pub enum Side {
     Near,
