@@ -1,6 +1,7 @@
 """The call that docs/dial.md describes, made from the documents alone and not by the program.
 
-Writes crates/dial/stdout; with a number as its argument it prints the call to that. The answers are those of the oracle.
+Writes crates/dial/stdout; with a number as its argument it prints the call to that, and with --timeline before the number its time
+line. The answers are those of the oracle.
 """
 
 import sys
@@ -237,13 +238,40 @@ def summary(sent, lost, answers):
     return f"sent {sent} packets, {lost} of them lost; {len(answers)} arrived: {count} news ({news}), {rest}"
 
 
-def played(number):
-    """The lines of a call."""
-    codes, lines = keys_of(number)
+def run_of(codes):
+    """The calls of both sides to these keys, the ends after them, the answers, and the tones as the caller makes them."""
     calls, tones = script(codes)
     turns = merged(calls, carried(calls))
     ends = {side: End(PROFILE) for side in (NEAR, FAR)}
-    answers = [answer_of(ends[side], call) for side, call in turns]
+    return turns, ends, [answer_of(ends[side], call) for side, call in turns], tones
+
+
+def strip(tones, begin):
+    """40 characters of one end's time line, for what is on at each tenth millisecond."""
+    on, ended = {}, 0
+    for tone in tones:
+        began = ended + tone.pause
+        ended = began + tone.held
+        on |= {time: KEYS[tone.key] for time in range(began, ended)}
+    return "".join(on.get(time, "." if time < ended else " ") for time in range(begin, begin + 400, 10))
+
+
+def time_line(number):
+    """The lines of the time line of a call."""
+    codes, lines = keys_of(number)
+    turns, _, answers, tones = run_of(codes)
+    heard = tones_heard([answer for (side, _), answer in zip(turns, answers) if side == FAR])
+    lines.append("a character is 10 ms: a key while its tone is on, or a point in a pause")
+    lines.append("       ms  keyed at the near end                      heard at the far end")
+    length = max(sum(tone.pause + tone.held for tone in side) for side in (tones, heard))
+    lines += [f"{begin:9} |{strip(tones, begin)}| |{strip(heard, begin)}|" for begin in range(0, length, 400)]
+    return lines + ["heard as dialled" if heard == tones else "not heard as dialled"]
+
+
+def played(number):
+    """The lines of a call."""
+    codes, lines = keys_of(number)
+    turns, ends, answers, tones = run_of(codes)
     delivered = {call.copies for _, call in turns if isinstance(call, Arrive)}
     sent = [at for at, answer in enumerate(answers) if isinstance(answer, (bytes, int))]
     lost = [at for at in sent if at not in delivered]
@@ -261,7 +289,9 @@ def played(number):
 
 
 if __name__ == "__main__":
-    if len(sys.argv) > 1:
+    if sys.argv[1:2] == ["--timeline"]:
+        print("\n".join(time_line(sys.argv[2])))
+    elif len(sys.argv) > 1:
         print("\n".join(played(sys.argv[1])))
     else:
         (CRATES / "dial" / "stdout").write_text("\n".join(played("5#x0")) + "\n")
