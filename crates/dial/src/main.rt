@@ -35,7 +35,7 @@ const HOSTILE: [&[u8]; 2] = [
 
 // What the arguments ask for.
 #[derive(Clone, Copy)]
-enum Asked<'a> {
+enum Request<'a> {
     /// the lines of the call to a number
     Lines(&'a str),
     /// its time line
@@ -56,22 +56,22 @@ fn main(rt: HostRuntime) -> anyhow::Result<()> {
     let _program = args.next();
     let args: Vec<String> = args.collect(alloc)?;
     let words: Vec<&str> = args.iter().map(|word| word.as_str()).collect(alloc)?;
-    match asked(words.as_slice()) {
-        Some(Asked::Lines(number)) => dial(&rt, number, false),
-        Some(Asked::Timeline(number)) => dial(&rt, number, true),
-        Some(Asked::Help) => Ok(println!(rt; "{HELP}")?),
+    match request_of(words.as_slice()) {
+        Some(Request::Lines(number)) => dial(&rt, number, false),
+        Some(Request::Timeline(number)) => dial(&rt, number, true),
+        Some(Request::Help) => Ok(println!(rt; "{HELP}")?),
         None => bail!("wrong arguments; dial --help says which there are"),
     }
 }
 
 // `None` where the arguments are wrong. No number begins with `-`.
-fn asked<'a>(words: &[&'a str]) -> Option<Asked<'a>> {
+fn request_of<'a>(words: &[&'a str]) -> Option<Request<'a>> {
     match words {
-        [] => Some(Asked::Lines(NUMBER)),
-        ["--help"] => Some(Asked::Help),
-        ["--timeline"] => Some(Asked::Timeline(NUMBER)),
-        ["--timeline", number] if !number.starts_with('-') => Some(Asked::Timeline(number)),
-        [number] if !number.starts_with('-') => Some(Asked::Lines(number)),
+        [] => Some(Request::Lines(NUMBER)),
+        ["--help"] => Some(Request::Help),
+        ["--timeline"] => Some(Request::Timeline(NUMBER)),
+        ["--timeline", number] if !number.starts_with('-') => Some(Request::Timeline(number)),
+        [number] if !number.starts_with('-') => Some(Request::Lines(number)),
         _ => None,
     }
 }
