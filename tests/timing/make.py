@@ -382,6 +382,22 @@ def apart():
     cas(0, 3, "accepted")
 
 
+def spellings():
+    """A number may have a plus sign or zeros in front."""
+    new()
+    profile("A")
+    lines.add("audio +0085 02 +20", said(trunk.audio, 85, 2, 20), "uui 1")
+    lines.add("key 01000 5", said(trunk.event, DIGITS, 1000, digit_of(5)), "accepted")
+    lines.add("duekey +1000 06", said(trunk.due, DIGITS, 1000, 6), key_octets(0, 1000, 5))
+    lines.add("cas +0 0011", said(trunk.event, CAS, 0, bits_of(3)), "accepted")
+    lines.add("duecas 00 +5", said(trunk.due, CAS, 0, 5), bits_octets(0, 0, 3))
+    lines.add("off +001001", said(trunk.event, DIGITS, 1001, digit_of(TONE_OFF)), "accepted")
+    lines.add(f"key 000{LARGEST} 5", said(trunk.event, DIGITS, LARGEST, digit_of(5)), "refused 10")
+    for line in ("key + 5", "key ++2000 5", "key -0 5", "off +", "duekey 2000 +17", "duecas 2000 -0", "audio 90 0 0256",
+                 f"off +{LARGEST + 1}"):
+        lines.bad(line)
+
+
 def bad_lines():
     """They change nothing."""
     new()
@@ -513,7 +529,7 @@ def is_enough():
 
 
 for part in (copies_and_refreshes, known_octets, late, ended, ends_of_the_range, short_buffers, at_the_same_time,
-             tone_off, clocks, every_millisecond, labels, audio_refused, apart, bad_lines, wander):
+             tone_off, clocks, every_millisecond, labels, audio_refused, apart, spellings, bad_lines, wander):
     part()
 is_enough()
 lines.write()

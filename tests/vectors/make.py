@@ -206,6 +206,21 @@ def wide():
         read_wide(changed(wide_octets(0, 0, 2), [95 - place]))
 
 
+def spellings():
+    """A number may have a plus sign or zeros in front, and a level below zero a minus sign."""
+    for line, octets in (("cas 00 +0 0000", cas_octets(0, 0, 0)), ("cas +3 016383 1111", cas_octets(3, 16383, 15)),
+                         ("digit 01 +70 +2 007 -020", digit_octets(1, 70, 2, 7, -20)),
+                         ("digit 0 0 0 05 -0", digit_octets(0, 0, 0, 5, 0)),
+                         ("digit 0 0 0 5 +3", digit_octets(0, 0, 0, 5, 3)),
+                         ("key 002 +500 # -010", digit_octets(2, 500, 0, KEYS.index("#"), -10)),
+                         ("key 0 0 # +0", digit_octets(0, 0, 0, KEYS.index("#"), 0)),
+                         ("wide 03 +0 +2", wide_octets(3, 0, 2))):
+        lines.add(line, shown(octets))
+    for line in ("cas + 0 0000", "cas ++1 0 0000", "cas -0 0 0000", "cas 0 +-1 0000", "cas 0 0x1 0000", "cas 0 1_0 0000",
+                 "cas 0 1.0 0000", "cas 000256 0 0000", "digit 0 0 0 5 -", "digit 0 0 0 5 --1", "digit 0 0 0 5 -0129"):
+        lines.bad(line)
+
+
 def bad_lines():
     for line in ("", " ", "cas", "cas 0 0", "cas 0 0 000", "cas 0 0 00000", "cas 0 0 0002", "cas 0 0 0000 0",
                  "cas 4 0 0000", "cas 255 0 0000", "cas -1 0 0000", "cas 0 16384 0000", "cas 0 65535 0000",
@@ -218,6 +233,6 @@ def bad_lines():
         lines.bad(line)
 
 
-for part in (good_cas, good_digits, keys, bad_digits, bodies, types_and_lengths, damage, wide, bad_lines):
+for part in (good_cas, good_digits, keys, bad_digits, bodies, types_and_lengths, damage, wide, spellings, bad_lines):
     part()
 lines.write()

@@ -5,7 +5,6 @@ use profile::Example;
 use refusal::Refusal;
 use text::bits::bits_of;
 use text::digit::{key_digit, tone_off};
-use text::number::number;
 
 /// A call.
 #[derive(Clone, Copy)]
@@ -29,11 +28,11 @@ impl Call {
             ["new"] => Some(Call::New),
             ["profile", name] => Some(Call::Profile(name.parse::<Example>().ok()?)),
             ["audio", time, place, length] => Some(Call::Audio {
-                time: number::<u64>(time)?,
-                place: number::<usize>(place)?,
-                length: number::<u8>(length)?,
+                time: time.parse::<u64>().ok()?,
+                place: place.parse::<usize>().ok()?,
+                length: length.parse::<u8>().ok()?,
             }),
-            [what, time, words @ ..] => Call::at(what, number::<u64>(time)?, words),
+            [what, time, words @ ..] => Call::at(what, time.parse::<u64>().ok()?, words),
             _ => None,
         }
     }

@@ -4,8 +4,6 @@ ghost use Rattle.std.specs.Prelude.{◌≡◌, true, Some, None, if◌then◌els
 ghost use Rattle.std.specs.Option.{option_map};
 ghost use Rattle.timing.specs.declared.room.TheConstants.{MOST_ROOM};
 
-use text::number::number;
-
 /// The longest buffer, in octets.
 pub const MOST_ROOM: usize = 16;
 
@@ -30,7 +28,7 @@ impl Room {
 
     /// The length by its word.
     pub fn of(word: &str) -> Option<Room> {
-        Room::new(number::<usize>(word)?)
+        Room::new(word.parse::<usize>().ok()?)
     }
 
     /// The length, in octets.

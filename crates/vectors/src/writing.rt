@@ -9,7 +9,6 @@ use examples::wide::{Mark, Wide};
 use kinds::{Cas, CasBits, Digit, Digits};
 use refusal::Refusal;
 use text::bits::bits_of;
-use text::number::{number, signed_number};
 use type3::{Kind, LONGEST, OctetBuffer, Payload, Redundancy, Stamp, write_payload};
 
 /// The two numbers at the head of a payload that is to be written, and its message.
@@ -29,14 +28,15 @@ enum Message {
 }
 
 impl WriteRequest {
-    /// The request of a kind's name and the words after it: `None` where a word is not what it is to be.
+    /// The request of a kind's name and the words after it: `None` where a word is not what it is to be. Numbers are what std's
+    /// `parse` takes, with a plus sign or zeros in front too.
     pub fn of(kind: &str, words: &[&str]) -> Option<WriteRequest> {
         let [redundancy, stamp, words @ ..] = words else {
             return None;
         };
         Some(WriteRequest {
-            redundancy: Redundancy::new(number::<u8>(redundancy)?)?,
-            stamp: Stamp::new(number::<u16>(stamp)?)?,
+            redundancy: Redundancy::new(redundancy.parse::<u8>().ok()?)?,
+            stamp: Stamp::new(stamp.parse::<u16>().ok()?)?,
             message: Message::of(kind, words)?,
         })
     }
@@ -74,20 +74,20 @@ impl Message {
         match (kind, words) {
             ("cas", [digits]) => Some(Message::Cas(bits_of(digits.as_bytes())?)),
             ("digit", [system, code, dbm0]) => Some(Message::Digit(Digit::new(
-                number::<u8>(system)?,
-                number::<u8>(code)?,
-                signed_number(dbm0)?,
+                system.parse::<u8>().ok()?,
+                code.parse::<u8>().ok()?,
+                dbm0.parse::<i8>().ok()?,
             ))),
             ("key", [key, dbm0]) => Message::of_key(key, dbm0),
             // a blank comes as two empty words
             ("key", ["", "", dbm0]) => Message::of_key(" ", dbm0),
-            ("wide", [code]) => Some(Message::Wide(Mark::try_from(number::<u8>(code)?).ok()?)),
+            ("wide", [code]) => Some(Message::Wide(Mark::try_from(code.parse::<u8>().ok()?).ok()?)),
             _ => None,
         }
     }
 
     fn of_key(key: &str, dbm0: &str) -> Option<Message> {
         let key = key.parse::<char>().ok()?;
-        Some(Message::Digit(Digit::of_key(key, signed_number(dbm0)?)))
+        Some(Message::Digit(Digit::of_key(key, dbm0.parse::<i8>().ok()?)))
     }
 }
