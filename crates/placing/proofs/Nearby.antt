@@ -72,6 +72,9 @@ agree span d e p q h = by (order p q)
         let k = ap (λ n. n * span) is ∙ add-mul q (suc m) span in
         record { turns = negsuc m; same = omega (arith, ints) }
 
+pub agree_back : (span : ℕ) (d e : ℤ) → Agrees span d e → Agrees span e d
+agree_back span d e a = let p = level span d e a in agree span e d p.less p.more (sym p.meet)
+
 -- ---- the nearest
 
 pub only_one : (span : ℕ) (labels : ℤ) (gap : ℕ) (d e : ℤ) → Nearest span labels gap d → Nearest span labels gap e → d ≡ e
